@@ -5,24 +5,30 @@ use Rattle.command_words.specs.declared.serve_setup.ServeSetup.{ServeSetup}
 
 -- nothing to make a server of
 abbrev pub not_read : ServeSetup
-not_read = record { port = 0; db = []; tickets = 0 }
+not_read = record { port = 0; db = []; idle = 0; tickets = 0 }
 
--- the two options that have to be given
+-- the option that has to be given, and how many connections are taken
 abbrev pub both : List (List ℕ)
 both = codes "--port" ∷ codes "8443" ∷ codes "--connections" ∷ codes "4" ∷ []
 
 pub record AreWorked : Type 0 where
-  -- the two options that have to be given, and all four
-  pub plain : serve_words_of both ≡ Some (record { connections = 4; workers = 2 })
-  pub plain_setup : serve_setup_of both ≡ record { port = 8443; db = []; tickets = 7 }
+  -- the option that has to be given, and all six
+  pub plain : serve_words_of (codes "--port" ∷ codes "8443" ∷ [])
+      ≡ Some (record { connections = None; at_once = 512; workers = 2 })
+  pub counted : serve_words_of both ≡ Some (record { connections = Some 4; at_once = 512; workers = 2 })
+  pub plain_setup : serve_setup_of both ≡ record { port = 8443; db = []; idle = 60; tickets = 515 }
   pub all : serve_setup_of
-      (codes "--db=f" ∷ codes "--workers=8" ∷ codes "--connections=1000000" ∷ codes "--port=1" ∷ [])
-      ≡ record { port = 1; db = codes "f"; tickets = 1000009 }
-  -- one of the two is missing, a number is out of range, or there is a word more
+      (codes "--db=f" ∷ codes "--workers=8" ∷ codes "--connections=1000000" ∷ codes "--port=1" ∷ codes "--at-once=4096"
+      ∷ codes "--idle=3600" ∷ [])
+      ≡ record { port = 1; db = codes "f"; idle = 3600; tickets = 4105 }
+  -- the port is missing, a number is out of range, or there is a word more
   pub nothing : serve_setup_of [] ≡ not_read
   pub no_port : serve_words_of (codes "--connections=4" ∷ []) ≡ None
-  pub no_connections : serve_words_of (codes "--port=8443" ∷ []) ≡ None
   pub port_0 : serve_setup_of (codes "--port" ∷ codes "0" ∷ codes "--connections" ∷ codes "4" ∷ []) ≡ not_read
+  pub connections_0 : serve_words_of (codes "--connections=0" ∷ codes "--port=8443" ∷ []) ≡ None
+  pub at_once_0 : serve_words_of (codes "--at-once=0" ∷ both) ≡ None
+  pub at_once_4097 : serve_words_of (codes "--at-once=4097" ∷ both) ≡ None
+  pub idle_3601 : serve_words_of (codes "--idle=3601" ∷ both) ≡ None
   pub workers_9 : serve_words_of (codes "--workers=9" ∷ both) ≡ None
   pub no_path : serve_setup_of (codes "--db=" ∷ both) ≡ not_read
   pub twice : serve_words_of (codes "--port=8443" ∷ both) ≡ None

@@ -17,12 +17,14 @@ use Rattle.command_words.specs.declared.serve_words.ServeWords.{ServeWords}
 abbrev pub bare_program : Shape
 bare_program = record (new_shape (codes "incusd")) { no_binary_name = true; disable_help_flag = true }
 
--- the options, two of which have to be given
+-- the options, one of which has to be given
 abbrev pub serve_options : List Rule
 serve_options =
     required_option_of (codes "port")
-    ∷ required_option_of (codes "connections")
+    ∷ option_of (codes "connections")
+    ∷ option_of (codes "at-once")
     ∷ option_of (codes "workers")
+    ∷ option_of (codes "idle")
     ∷ option_of (codes "db")
     ∷ []
 
@@ -40,9 +42,17 @@ parsed_options words = if are_taken serve_program words then Some (matches_of se
 abbrev pub port_said : List ℕ → Option ℕ
 port_said value = number_said 1 65535 value
 
--- how many connections are taken, one after the other or at once
+-- how many connections are taken in all
 abbrev pub connections_said : List ℕ → Option ℕ
 connections_said value = number_said 1 1000000 value
+
+-- how many connections are served at once
+abbrev pub at_once_said : List ℕ → Option ℕ
+at_once_said value = number_said 1 4096 value
+
+-- how many seconds a connection may send nothing
+abbrev pub idle_said : List ℕ → Option ℕ
+idle_said value = number_said 1 3600 value
 
 -- how many workers make the calls of background operations
 abbrev pub workers_said : List ℕ → Option ℕ
@@ -58,12 +68,27 @@ is_path value = not (length value == 0)
 abbrev pub worker_count : List Row → Option ℕ
 worker_count given = option_map_or workers_said (first_of (codes "workers") given) (Some 2)
 
+-- 512 connections at once, where the words say no number of them
+abbrev pub at_once_count : List Row → Option ℕ
+at_once_count given = option_map_or at_once_said (first_of (codes "at-once") given) (Some 512)
+
+-- a minute, where the words say no number of seconds
+abbrev pub idle_seconds : List Row → Option ℕ
+idle_seconds given = option_map_or idle_said (first_of (codes "idle") given) (Some 60)
+
+-- how many connections are taken: all that come, where the words say no number of them
+abbrev pub connection_count : List Row → Option (Option ℕ)
+connection_count given =
+    option_map_or (λ value. option_map (λ n. Some n) (connections_said value)) (first_of (codes "connections") given)
+    (Some None)
+
 -- the numbers that the options say, where each is one that its option takes
 abbrev pub option_numbers : List Row → Option Options
 option_numbers given =
-    option_and_then (λ port. option_and_then (λ connections. option_map
-    (λ workers. record { port = port; connections = connections; workers = workers }) (worker_count given))
-    (option_and_then connections_said (first_of (codes "connections") given)))
+    option_and_then (λ port. option_and_then (λ connections. option_and_then (λ at_once. option_and_then (λ workers.
+    option_map
+    (λ idle. record { port = port; connections = connections; at_once = at_once; workers = workers; idle = idle })
+    (idle_seconds given)) (worker_count given)) (at_once_count given)) (connection_count given))
     (option_and_then port_said (first_of (codes "port") given))
 
 -- the same, where the path of a file is one too
@@ -78,17 +103,25 @@ options_of words = option_and_then options_from (parsed_options words)
 -- how many connections and workers the words say, where they are read
 abbrev pub serve_words_of : List (List ℕ) → Option ServeWords
 serve_words_of words =
-    option_map (λ options. record { connections = options.connections; workers = options.workers }) (options_of words)
+    option_map (λ options. record {
+      connections = options.connections;
+      at_once = options.at_once;
+      workers = options.workers;
+    }) (options_of words)
 
 -- the path of the file that keeps the rows, and the empty text where they are kept in memory
 abbrev pub db_in : List (List ℕ) → List ℕ
 db_in words = unwrap_or (option_and_then (first_of (codes "db")) (parsed_options words)) []
 
--- one ticket through the lock for each connection, one for each worker, and one to close
+-- one ticket through the lock for each connection that is served at once, one for each worker, and one to close
 abbrev pub setup_with : Option Options → List ℕ → ServeSetup
-setup_with (Some options) db =
-    record { port = options.port; db = db; tickets = options.connections + options.workers + 1 }
-setup_with None db = record { port = 0; db = []; tickets = 0 }
+setup_with (Some options) db = record {
+  port = options.port;
+  db = db;
+  idle = options.idle;
+  tickets = options.at_once + options.workers + 1;
+}
+setup_with None db = record { port = 0; db = []; idle = 0; tickets = 0 }
 
 -- what the words say of the outside: port 0, no file and no tickets where they are not read
 abbrev pub serve_setup_of : List (List ℕ) → ServeSetup

@@ -21,10 +21,11 @@ pub fn run_help() -> &'static str {
 pub fn serve_help() -> &'static str {
     "incusd: expected these options:\n\
      \n\
-     --port N --connections N [--workers N] [--db PATH]\n\
-     \x20   answers the requests of N connections to 127.0.0.1\n\
+     --port N [--connections N] [--at-once N] [--workers N] [--idle SECONDS] [--db PATH]\n\
+     \x20   answers the requests of connections to 127.0.0.1, and ends after N of them where --connections is given\n\
      \n\
      They stand in any order, each at most once, as --name VALUE or --name=VALUE. A number has no sign and no zero in\n\
-     front: --port 1 to 65535, --connections 1 to 1000000, --workers 1 to 8, of which there are 2 where none is given.\n\
+     front: --port 1 to 65535, --connections 1 to 1000000, --at-once 1 to 4096 (else 512), --workers 1 to 8 (else 2),\n\
+     --idle 1 to 3600 (else 60). A connection beyond those that are served at once is answered 503 and closed.\n\
      PATH is not empty.\n"
 }

@@ -24,8 +24,10 @@ fn program<'a>(alloc: Global) -> Result<Command<'a>, NoMemory>
 {
     let program = bare_program(alloc);
     let program = with_required_option(alloc, program, "port")?;
-    let program = with_required_option(alloc, program, "connections")?;
+    let program = with_option(alloc, program, "connections")?;
+    let program = with_option(alloc, program, "at-once")?;
     let program = with_option(alloc, program, "workers")?;
+    let program = with_option(alloc, program, "idle")?;
     with_option(alloc, program, "db")
 }
 

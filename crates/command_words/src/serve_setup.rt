@@ -11,12 +11,13 @@ use clap::ArgMatches;
 use size_values::{NoMemory, Text};
 use std::alloc::Global;
 
-/// The port that is listened on; the file that keeps the rows, or the empty text where they are kept in memory; and how
-/// many tickets through the lock of the server the run takes.
+/// The port that is listened on; the file that keeps the rows, or the empty text where they are kept in memory; how many
+/// seconds a connection may send nothing; and how many tickets through the lock of the server the run takes.
 #[derive(Drop)]
 pub struct ServeSetup {
     pub port: u32,
     pub db: Text,
+    pub idle: u32,
     pub tickets: u32,
 }
 
@@ -39,17 +40,19 @@ fn setup_of_matches(alloc: Global, given: &Option<ArgMatches<'_>>) -> Result<Ser
 {
     match options_of_matches(given) {
         Some(options) => {
-            let tickets = options.connections + options.workers + 1;
+            let tickets = options.at_once + options.workers + 1;
             let db = Text::from_text(alloc, db_of(given))?;
             Ok(ServeSetup {
                 port: options.port,
                 db,
+                idle: options.idle,
                 tickets,
             })
         }
         None => Ok(ServeSetup {
             port: 0,
             db: Text::new(alloc),
+            idle: 0,
             tickets: 0,
         }),
     }

@@ -2,11 +2,14 @@
 ghost use Rattle.std.specs.Prelude.{◌≡◌, ◌≤◌, map, option_map, IfOk, IfSome, string_bytes};
 ghost use Rattle.std.specs.Option.{option_and_then};
 ghost use Rattle.clap.specs.Words.{found_of, rows_of};
-ghost use Rattle.command_words.specs.ServeWords.{option_numbers, options_from, serve_words_of, worker_count};
+ghost use Rattle.command_words.specs.ServeWords.{at_once_count, connection_count, idle_seconds, option_numbers};
+ghost use Rattle.command_words.specs.ServeWords.{options_from, serve_words_of, worker_count};
 
 use crate::reading::value_of;
 use crate::serve_program::parsed_options;
-use crate::serve_values::{connections_said, port_said, takes_path, workers_said};
+use crate::serve_values::{
+    at_once_said, connections_said, idle_said, port_said, takes_path, workers_said,
+};
 use clap::ArgMatches;
 use size_values::NoMemory;
 use std::alloc::Global;
@@ -14,11 +17,18 @@ use std::alloc::Global;
 /// How many workers there are, where the words say no number of them.
 const WORKERS: u32 = 2;
 
-/// What the words say of the server: how many connections it takes, from 1 to 1,000,000, and how many workers it has,
-/// from 1 to 8.
+/// How many connections are served at once, where the words say no number of them.
+const AT_ONCE: u32 = 512;
+
+/// How many seconds a connection may send nothing, where the words say no number of them.
+const IDLE: u32 = 60;
+
+/// What the words say of the server: how many connections it takes, from 1 to 1,000,000, or None where it takes all that
+/// come; how many of them it serves at once, from 1 to 4,096; and how many workers it has, from 1 to 8.
 #[derive(Clone, Copy, PartialEq, Eq)]
 pub struct ServeWords {
-    pub connections: u32,
+    pub connections: Option<u32>,
+    pub at_once: u32,
     pub workers: u32,
 }
 
@@ -26,8 +36,10 @@ pub struct ServeWords {
 #[derive(Clone, Copy)]
 pub(crate) struct Options {
     pub port: u32,
-    pub connections: u32,
+    pub connections: Option<u32>,
+    pub at_once: u32,
     pub workers: u32,
+    pub idle: u32,
 }
 
 fn worker_count(given: &ArgMatches<'_>) -> Option<u32>
@@ -40,24 +52,57 @@ fn worker_count(given: &ArgMatches<'_>) -> Option<u32>
     }
 }
 
+fn at_once_count(given: &ArgMatches<'_>) -> Option<u32>
+    ensures says { result ≡ at_once_count (rows_of (found_of given.now)) }
+    ensures few { IfSome result (λ count. count ≤ 4096) }
+{
+    match value_of(given, "at-once") {
+        Some(value) => at_once_said(value),
+        None => Some(AT_ONCE),
+    }
+}
+
+fn idle_seconds(given: &ArgMatches<'_>) -> Option<u32>
+    ensures { result ≡ idle_seconds (rows_of (found_of given.now)) }
+{
+    match value_of(given, "idle") {
+        Some(value) => idle_said(value),
+        None => Some(IDLE),
+    }
+}
+
+/// How many connections are taken: None in the inner option where all that come are.
+fn connection_count(given: &ArgMatches<'_>) -> Option<Option<u32>>
+    ensures { result ≡ connection_count (rows_of (found_of given.now)) }
+{
+    match value_of(given, "connections") {
+        Some(value) => connections_said(value).map(Some),
+        None => Some(None),
+    }
+}
+
 /// The numbers that the options say, where each is one that its option takes.
 fn option_numbers(given: &ArgMatches<'_>) -> Option<Options>
     ensures says { result ≡ option_numbers (rows_of (found_of given.now)) }
-    ensures few { IfSome result (λ o. (o.connections ≤ 1000000) × (o.workers ≤ 8)) }
+    ensures few { IfSome result (λ o. (o.at_once ≤ 4096) × (o.workers ≤ 8)) }
 {
     let port = value_of(given, "port").and_then(port_said)?;
-    let connections = value_of(given, "connections").and_then(connections_said)?;
+    let connections = connection_count(given)?;
+    let at_once = at_once_count(given)?;
     let workers = worker_count(given)?;
+    let idle = idle_seconds(given)?;
     Some(Options {
         port,
         connections,
+        at_once,
         workers,
+        idle,
     })
 }
 
 fn options_from(given: &ArgMatches<'_>) -> Option<Options>
     ensures says { result ≡ options_from (rows_of (found_of given.now)) }
-    ensures few { IfSome result (λ o. (o.connections ≤ 1000000) × (o.workers ≤ 8)) }
+    ensures few { IfSome result (λ o. (o.at_once ≤ 4096) × (o.workers ≤ 8)) }
 {
     if takes_path(value_of(given, "db")) {
         option_numbers(given)
@@ -69,7 +114,7 @@ fn options_from(given: &ArgMatches<'_>) -> Option<Options>
 /// The same, where the words are taken.
 pub(crate) fn options_of_matches(given: &Option<ArgMatches<'_>>) -> Option<Options>
     ensures says { result ≡ option_and_then options_from (option_map (λ m. rows_of (found_of m)) given.now) }
-    ensures few { IfSome result (λ o. (o.connections ≤ 1000000) × (o.workers ≤ 8)) }
+    ensures few { IfSome result (λ o. (o.at_once ≤ 4096) × (o.workers ≤ 8)) }
 {
     match given {
         Some(given) => options_from(given),
@@ -77,12 +122,12 @@ pub(crate) fn options_of_matches(given: &Option<ArgMatches<'_>>) -> Option<Optio
     }
 }
 
-/// What the words say, where they are read: the options `--port`, `--connections`, `--workers` and `--db` in any order,
-/// each at most once, as `--name VALUE` or `--name=VALUE`. The first two have to be given.
+/// What the words say, where they are read: the options `--port`, `--connections`, `--at-once`, `--workers`, `--idle` and
+/// `--db` in any order, each at most once, as `--name VALUE` or `--name=VALUE`. The first has to be given.
 #[tactic(auto, unfolding(crate::specs::ServeWords::options_of))]
 pub fn read_serve_words(alloc: Global, words: &[String]) -> Result<Option<ServeWords>, NoMemory>
     ensures says { IfOk result (λ said. said ≡ serve_words_of (map (λ w. string_bytes w) words.now)) }
-    ensures few { IfOk result (λ said. IfSome said (λ s. (s.connections ≤ 1000000) × (s.workers ≤ 8))) }
+    ensures few { IfOk result (λ said. IfSome said (λ s. (s.at_once ≤ 4096) × (s.workers ≤ 8))) }
 {
     let given = parsed_options(alloc, words)?;
     let said = options_of_matches(&given);
@@ -90,6 +135,7 @@ pub fn read_serve_words(alloc: Global, words: &[String]) -> Result<Option<ServeW
     match said {
         Some(options) => Ok(Some(ServeWords {
             connections: options.connections,
+            at_once: options.at_once,
             workers: options.workers,
         })),
         None => Ok(None),

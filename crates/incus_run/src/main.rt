@@ -13,14 +13,12 @@ use crate::clock::WatchedClock;
 use crate::host::WatchedHost;
 use crate::progress::Progress;
 use crate::requests::drill_requests;
-use command_words::{Setup, run_help, setup_of};
+use command_words::{run_help, setup_of};
 use host_model::ModelHost;
 use http_front::{Clock, ReaderSource, SystemClock, WriterSink};
-use program_start::{StartFault, fault_of, tell, tell_why, words_of};
-use record_keeper::{Keeper, MapKeeper};
+use program_start::{RowsKeeper, StartFault, fault_of, tell, tell_why, words_of};
 use serial_run::run_main;
 use size_values::Seq;
-use sqlite_keeper::SqliteKeeper;
 use std::io::IsTerminal;
 use std::process::ExitCode;
 
@@ -37,13 +35,25 @@ fn requests_to_tell(rt: HostRuntime, words: &[String]) -> Option<u64> {
     }
 }
 
-/// All that the program does, over a keeper.
-fn run_over<R: Keeper>(
+/// All that the program does. Standard error tells why the rows of a file were not opened.
+fn run(rt: HostRuntime, words: &[String]) -> u8 {
+    let Ok(setup) = setup_of(rt.alloc(), words) else {
+        return StartFault::NoMemory.status();
+    };
+    let keeper = RowsKeeper::at(rt, setup.db, setup.fail_keeper);
+    let (status, mut keeper) = run_over(rt, words, setup.fail_host, keeper);
+    tell_why(rt, PROGRAM, status, &mut keeper);
+    drop(keeper);
+    status
+}
+
+/// Does what the words say over a keeper, and gives it back.
+fn run_over(
     rt: HostRuntime,
     words: &[String],
     fail_host: Seq<u64>,
-    keeper: R,
-) -> (u8, R) {
+    keeper: RowsKeeper,
+) -> (u8, RowsKeeper) {
     let progress = Progress::new(rt, PROGRAM, requests_to_tell(rt, words));
     let mut host = WatchedHost::new(&progress, ModelHost::new(rt.alloc(), fail_host));
     let mut source = ReaderSource::new(rt.stdin());
@@ -61,35 +71,6 @@ fn run_over<R: Keeper>(
         &mut clock,
         boot,
     )
-}
-
-/// The same over rows in memory.
-fn run_in_memory(rt: HostRuntime, words: &[String], setup: Setup) -> u8 {
-    let keeper = MapKeeper::new(rt.alloc(), setup.fail_keeper);
-    let (status, keeper) = run_over(rt, words, setup.fail_host, keeper);
-    drop(keeper);
-    status
-}
-
-/// The same over the rows of a file. Standard error tells why it was not opened.
-fn run_over_file(rt: HostRuntime, words: &[String], setup: Setup) -> u8 {
-    let keeper = SqliteKeeper::at(rt, setup.db);
-    let (status, mut keeper) = run_over(rt, words, setup.fail_host, keeper);
-    tell_why(rt, PROGRAM, status, &mut keeper);
-    drop(keeper);
-    status
-}
-
-/// The exit status for words that could be taken.
-fn run(rt: HostRuntime, words: &[String]) -> u8 {
-    let Ok(setup) = setup_of(rt.alloc(), words) else {
-        return StartFault::NoMemory.status();
-    };
-    if setup.db.is_empty() {
-        run_in_memory(rt, words, setup)
-    } else {
-        run_over_file(rt, words, setup)
-    }
 }
 
 fn main(rt: HostRuntime) -> ExitCode {

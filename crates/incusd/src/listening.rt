@@ -2,13 +2,13 @@
 ghost use Rattle.std.specs.Prelude.{◌≡◌, map, string_bytes};
 ghost use Rattle.command_words.specs.ServeWords.{serve_setup_of};
 
-use crate::telling::tell_address;
+use crate::telling::DoorNotes;
 use crate::threads::{Spawning, on_threads};
 use host_model::ModelHost;
 use http_front::{Clock, ReaderSource, SystemClock, WriterSink};
 use record_keeper::Keeper;
 use server_main::{ServerJob, serve_main};
-use serving::{Doors, Spawner, listen};
+use serving::{Doors, LinkTimes, NetDoors, Spawner};
 use size_values::Seq;
 use std::alloc::Global;
 use std::marker::{Brand, PhantomData};
@@ -17,6 +17,19 @@ use std::sync::Wait;
 use std::sync::ledger::{Blank, Ledger};
 use std::thread::Threads;
 use std::time;
+use std::time::Duration;
+
+/// How many seconds a link waits for the other end to take some bytes.
+const PATIENCE: u64 = 60;
+
+/// What a server listens with: its port, after how many idle seconds a connection is closed, and how many tickets there
+/// are through the lock of the server.
+#[derive(Clone, Copy)]
+pub(crate) struct Listening {
+    pub(crate) port: u16,
+    pub(crate) idle: u32,
+    pub(crate) tickets: u32,
+}
 
 /// What a server is begun with, but for its spawner.
 struct Beginning<'a, D, R, L, T> {
@@ -99,26 +112,29 @@ where
         blank,
         ledger: PhantomData,
     };
-    on_threads(system, beginning)
+    on_threads(system, alloc, beginning)
 }
 
-/// The same over TCP, at a ledger of its own, with a part for each ticket.
+/// The same over TCP, at a ledger of its own, with a part for each ticket. The port is listened on once the rows are
+/// opened.
 pub(crate) fn serve_over<R, T>(
     rt: HostRuntime,
     system: T,
     words: &[String],
-    port: u16,
-    tickets: u32,
+    setup: Listening,
     keeper: R,
 ) -> (u8, Option<R>)
 where
     R: Keeper + Drop + Send + 'static,
     T: Net<Listener = TcpListener, Stream = TcpStream> + Threads + Wait + time::Clock,
     T: Copy + Drop + Send + Sync + 'static,
-    requires { tickets ≡ (serve_setup_of (map (λ w. string_bytes w) words.now)).tickets }
+    requires { setup.tickets ≡ (serve_setup_of (map (λ w. string_bytes w) words.now)).tickets }
 {
-    let doors = listen(&system, port);
-    tell_address(rt, port, doors.is_listening());
-    let blank = Blank::new(u64::from(tickets));
+    let times = LinkTimes {
+        idle: Duration::from_secs(u64::from(setup.idle)),
+        patience: Duration::from_secs(PATIENCE),
+    };
+    let doors = NetDoors::at(system, setup.port, times, DoorNotes::new(rt, setup.port));
+    let blank = Blank::new(u64::from(setup.tickets));
     serve_at::<_, Brand, R, T>(system, rt.alloc(), words, doors, keeper, blank)
 }

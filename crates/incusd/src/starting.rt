@@ -2,47 +2,31 @@
 ghost use Rattle.std.specs.Prelude.{◌≡◌, map, string_bytes};
 ghost use Rattle.command_words.specs.ServeWords.{serve_setup_of};
 
-use crate::listening::serve_over;
+use crate::listening::{Listening, serve_over};
 use crate::telling::PROGRAM;
 use command_words::serve_setup_of;
-use program_start::{StartFault, tell_why};
-use record_keeper::MapKeeper;
+use program_start::{RowsKeeper, StartFault, tell_why};
 use size_values::{Seq, Text};
-use sqlite_keeper::SqliteKeeper;
 use std::net::{Net, TcpListener, TcpStream};
 use std::sync::Wait;
 use std::thread::Threads;
 use std::time;
 
-/// The exit status of a server over rows in memory.
-fn serve_in_memory<T>(rt: HostRuntime, system: T, words: &[String], port: u16, tickets: u32) -> u8
-where
-    T: Net<Listener = TcpListener, Stream = TcpStream> + Threads + Wait + time::Clock,
-    T: Copy + Drop + Send + Sync + 'static,
-    requires { tickets ≡ (serve_setup_of (map (λ w. string_bytes w) words.now)).tickets }
-{
-    let keeper = MapKeeper::new(rt.alloc(), Seq::new(rt.alloc()));
-    let (status, back) = serve_over(rt, system, words, port, tickets, keeper);
-    drop(back);
-    status
-}
-
-/// The same over the rows of a file. Standard error tells why it was not opened.
-fn serve_file<T>(
+/// The exit status of a server over the rows at this path. Standard error tells why they were not opened.
+fn serve_rows<T>(
     rt: HostRuntime,
     system: T,
     words: &[String],
-    port: u16,
-    tickets: u32,
+    listening: Listening,
     path: Text,
 ) -> u8
 where
     T: Net<Listener = TcpListener, Stream = TcpStream> + Threads + Wait + time::Clock,
     T: Copy + Drop + Send + Sync + 'static,
-    requires { tickets ≡ (serve_setup_of (map (λ w. string_bytes w) words.now)).tickets }
+    requires { listening.tickets ≡ (serve_setup_of (map (λ w. string_bytes w) words.now)).tickets }
 {
-    let keeper = SqliteKeeper::at(rt, path);
-    let (status, back) = serve_over(rt, system, words, port, tickets, keeper);
+    let keeper = RowsKeeper::at(rt, path, Seq::new(rt.alloc()));
+    let (status, back) = serve_over(rt, system, words, listening, keeper);
     let Some(mut keeper) = back else {
         return status;
     };
@@ -60,14 +44,15 @@ where
     let Ok(setup) = serve_setup_of(rt.alloc(), words) else {
         return StartFault::NoMemory.status();
     };
-    let port = u16::try_from(setup.port).unwrap_or(0);
-    let tickets = setup.tickets;
+    let listening = Listening {
+        port: u16::try_from(setup.port).unwrap_or(0),
+        idle: setup.idle,
+        tickets: setup.tickets,
+    };
     let db = setup.db;
-    if port == 0 {
+    if listening.port == 0 {
         StartFault::Words.status()
-    } else if db.is_empty() {
-        serve_in_memory(rt, system, words, port, tickets)
     } else {
-        serve_file(rt, system, words, port, tickets, db)
+        serve_rows(rt, system, words, listening, db)
     }
 }

@@ -2,8 +2,9 @@
 ghost use Rattle.std.specs.Prelude.{◌≡◌};
 ghost use Rattle.serving.specs.Counts.{none_begun};
 
-use serving::{Job, Spawner, ThreadSpawner, start_thread, start_thread_or_run};
-use std::thread::{JoinHandle, Threads};
+use serving::{Job, Spawner, ThreadSpawner, ThreadTask, start_thread, start_thread_or_decline};
+use std::alloc::Global;
+use std::thread::Threads;
 
 /// What is done with a spawner that has begun nothing.
 pub(crate) trait Spawning<J: Job> {
@@ -19,7 +20,7 @@ pub(crate) trait Spawning<J: Job> {
 }
 
 /// Does it with a spawner whose jobs are threads.
-pub(crate) fn on_threads<J, T, S>(system: T, spawning: S) -> S::Out
+pub(crate) fn on_threads<J, T, S>(system: T, alloc: Global, spawning: S) -> S::Out
 where
     J: Job + Drop + Send + 'static,
     J::Out: Send + 'static,
@@ -27,10 +28,10 @@ where
     S: Spawning<J>,
     requires { S.is_sound spawning }
 {
-    let start = move |job: J| -> Option<JoinHandle<J::Out>> { start_thread(&system, job) };
-    let start_or_run = move |job: J| -> Result<JoinHandle<J::Out>, J::Out> {
-        start_thread_or_run(&system, job)
+    let start = move |job: J| -> Option<ThreadTask<J::Out>> { start_thread(&system, alloc, job) };
+    let start_or_decline = move |job: J| -> Result<ThreadTask<J::Out>, J::Out> {
+        start_thread_or_decline(&system, alloc, job)
     };
-    let mut spawner = ThreadSpawner::new(system, start, start_or_run);
+    let mut spawner = ThreadSpawner::new(system, start, start_or_decline);
     spawning.run(&mut spawner)
 }

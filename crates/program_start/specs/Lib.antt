@@ -1,2 +1,3 @@
 -- The libraries whose words crates above name through this one.
 pub use Rattle.start_faults as start_faults
+pub mod RowsKeepers

@@ -1,3 +1,4 @@
+use crate::rows_keeper::RowsKeeper;
 use crate::start_messages::{tell_fault, tell_line};
 use size_values::NoMemory;
 use sqlite_keeper::SqliteKeeper;
@@ -20,9 +21,12 @@ fn tell_trouble(rt: HostRuntime, program: &str, keeper: &SqliteKeeper) {
     tell_line(rt, trouble_line(rt.alloc(), program, keeper));
 }
 
-/// Why a program over the rows of a file ended with this exit status, where the file or its rows are why: it keeps no
-/// rows, or they open to none.
-pub fn tell_why(rt: HostRuntime, program: &str, status: u8, keeper: &mut SqliteKeeper) {
+/// Why a program ended with this exit status, where the keeper or its rows are why: a file keeps no rows, or they open
+/// to none.
+pub fn tell_why(rt: HostRuntime, program: &str, status: u8, keeper: &mut RowsKeeper) {
+    let RowsKeeper::File(keeper) = keeper else {
+        return;
+    };
     if status == StartFault::KeeperFailed.status() {
         tell_trouble(rt, program, keeper);
     }

@@ -1,30 +1,43 @@
 -- A server that is begun, and one that is not.
-use Rattle.std.proofs.Common.{◌≡◌, ℕ, true, List, [], Option, Some, None, Result, Ok, Err, IfErr, OnOk}
+use Rattle.std.proofs.Common.{◌≡◌, ℕ, ◌+◌, ◌∙◌, true, List, [], Option, Some, None, Result, Ok, Err, IfErr, OnOk}
 use Rattle.std.proofs.Common.{refl, ap, sym, inl, inr}
 use Rattle.std.proofs.lemmas.Iterator.Adapters.{option_map_id}
-use Rattle.std.specs.Option.{is_some}
+use Rattle.std.specs.Option.{is_some, option_map_or}
 use Rattle.record_keeper.specs.Store.{Store}
 use Rattle.row_machine.specs.machine.State.{State}
 use Rattle.row_machine.specs.opening.Opening.{damaged, broken}
 use Rattle.start_faults.specs.core_rows.specs.Opening.{OpensTo, Refuses}
 use Rattle.start_faults.specs.core_rows.specs.declared.opening.OpenFault.{OpenFault}
 use Rattle.start_faults.specs.core_rows.specs.declared.opening.OpenFault.TheVariants as fault
-use Rattle.serving.specs.Serves.{GivesFirst, IsServed}
+use Rattle.serving.specs.Counts.{Counts, none_begun}
+use Rattle.serving.specs.Serves.{AreHandled, GivesFirst, IsServed}
 use Rattle.serving.specs.Troubles.{IsCaused, status_of}
 use Rattle.serving.specs.declared.trouble.Trouble.{Trouble}
 use Rattle.command_words.specs.ServeWords.{serve_words_of}
 use Rattle.command_words.specs.declared.serve_words.ServeWords.{ServeWords}
 use Rattle.start_faults.specs.Starts.{start_fault, start_status}
 use Rattle.start_faults.specs.declared.fault.StartFault.TheVariants as start
-use Rattle.server_main.specs.Servers.{EndsBy, HasCauseToRefuse, Outside, Serves}
+use Rattle.server_main.specs.Servers.{EndsBy, HasCauseToRefuse, Outside, Serves, at_once_in, connections_of}
 
 -- doors that gave no link
 pub gives_none : {T : Type 0} (given : ℕ) (left : Option (List T)) → given ≡ 0 → GivesFirst 0 given left left
 gives_none given left none = record { links = []; count = none; first = sym (option_map_id left) }
 
+-- doors that gave no link, and a spawner that had begun nothing
+pub none_handled : {n given : ℕ} {counts : Counts} → given ≡ 0 → counts ≡ none_begun → AreHandled n given counts
+none_handled none idle = record {
+  away = 0;
+  links = ap (λ c. c.links + c.declined + 0) idle ∙ sym none;
+  full = inl refl;
+}
+
+-- how many connections are served at once, where the words are read
+pub at_once_said : (words : List (List ℕ)) (said : ServeWords) → serve_words_of words ≡ Some said → at_once_in words ≡ said.at_once
+at_once_said words said read = ap (λ o. option_map_or (λ (s : ServeWords). s.at_once) o 0) read
+
 -- how a server ended, from what is known of each end
 pub ends_so : (said : ServeWords) (ends : Result (Unit {0}) Trouble) (before after : Outside)
-    → OnOk ends (IsServed said.connections said.workers after.doors after.counts)
+    → OnOk ends (IsServed (connections_of said) said.at_once said.workers after.doors after.counts)
     → IfErr ends (λ t. IsCaused t before.doors.failed after.doors.failed before.refused after.refused)
     → EndsBy said ends before after
 ends_so said (Ok u) before after served caused = served

@@ -1,5 +1,6 @@
 -- What a server comes to, from its words on.
-use Rattle.std.specs.Prelude.{◌≡◌, ◌⊎◌, ℕ, true, List, Option, Some, None, is_some, Result, Ok, Err}
+use Rattle.std.specs.Prelude.{◌≡◌, ◌⊎◌, ◌^◌, ℕ, true, List, Option, Some, None, is_some, Result, Ok, Err}
+use Rattle.std.specs.Option.{option_map_or, unwrap_or}
 use Rattle.record_keeper.specs.Store.{Store}
 use Rattle.row_machine.specs.machine.State.{State}
 use Rattle.start_faults.specs.core_rows.specs.Opening.{OpensTo, Refuses}
@@ -46,9 +47,18 @@ pub record NotBegun (words : List (List ℕ)) (keeper : Store) (back : Option St
   pub status_is : status ≡ start_status why
   pub same : after ≡ before
 
+-- how many connections are served in all: more than ever come, where the words say no number of them
+abbrev pub connections_of : ServeWords → ℕ
+connections_of said = unwrap_or said.connections (2 ^ 62)
+
+-- how many connections are served at once by these words, and none where they are not read
+abbrev pub at_once_in : List (List ℕ) → ℕ
+at_once_in words = option_map_or (λ (said : ServeWords). said.at_once) (serve_words_of words) 0
+
 -- A server served its links, or had trouble with its doors or its spawner, or was out of memory.
 abbrev pub EndsBy : ServeWords → Result (Unit {0}) Trouble → Outside → Outside → Type 0
-EndsBy said (Ok unit) before after = IsServed said.connections said.workers after.doors after.counts
+EndsBy said (Ok unit) before after =
+    IsServed (connections_of said) said.at_once said.workers after.doors after.counts
 EndsBy said (Err trouble) before after = IsCaused trouble before.doors.failed after.doors.failed
     before.refused after.refused
 
@@ -81,4 +91,4 @@ GivesBack None P = ⊥
 pub record ServesAll (words : List (List ℕ)) (after : Outside) : Type 0 where
   pub said : ServeWords
   pub read : serve_words_of words ≡ Some said
-  pub served : IsServed said.connections said.workers after.doors after.counts
+  pub served : IsServed (connections_of said) said.at_once said.workers after.doors after.counts

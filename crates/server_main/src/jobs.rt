@@ -1,5 +1,6 @@
 ghost use Rattle.server_main.specs.Jobs.{is_link};
 
+use crate::busy::BUSY;
 use host_model::Host;
 use http_front::{Clock, Sink, Source};
 use record_keeper::Keeper;
@@ -32,10 +33,11 @@ pub enum ServerJob<S, K, R: Keeper, H: Host, C, L: Ledger, T: Wait + time::Clock
     },
 }
 
-/// What is left of a job: its gate, with the ticket that the close wants back, and why a connection ended.
+/// What is left of a job: its gate, which another job may have, and why a connection ended.
 #[derive(Drop)]
 pub enum JobEnd<R: Keeper, L: Ledger, T: Wait + time::Clock> {
     Link(ConnectionEnd, LockedGate<R, L, T>),
+    Declined(LockedGate<R, L, T>),
     Worker(LockedGate<R, L, T>),
 }
 
@@ -90,6 +92,16 @@ impl<
                 work(&rt, &mut gate, &mut host, &mut clock);
                 JobEnd::Worker(gate)
             }
+        }
+    }
+
+    fn decline(self) -> JobEnd<R, L, T> {
+        match self {
+            ServerJob::Link { gate, mut sink, .. } => {
+                let _told = sink.write(BUSY);
+                JobEnd::Declined(gate)
+            }
+            ServerJob::Worker { gate, .. } => JobEnd::Worker(gate),
         }
     }
 }

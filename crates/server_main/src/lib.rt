@@ -1,6 +1,7 @@
 //! A server of many threads: the jobs of its links and workers, and the top call `serve_main`.
 #![tactic(auto)]
 
+mod busy;
 mod jobs;
 mod server;
 mod slots;

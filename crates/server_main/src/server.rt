@@ -1,4 +1,4 @@
-ghost use Rattle.std.specs.Prelude.{◌≡◌, ℕ, ◌+◌, ◌⊎◌, ◌≤◌, List, map, option_map, Some, None, IfSome};
+ghost use Rattle.std.specs.Prelude.{◌≡◌, ℕ, ◌+◌, ◌^◌, ◌⊎◌, ◌≤◌, List, map, option_map, Some, None, IfSome};
 ghost use Rattle.std.specs.Prelude.{is_some, string_bytes, true, false};
 ghost use Rattle.size_values.specs.Causes.{Rose};
 ghost use Rattle.row_machine.specs.machine.State.{State};
@@ -6,9 +6,10 @@ ghost use Rattle.row_machine.specs.opening.Opening.{opened, opening_of};
 ghost use Rattle.start_faults.specs.core_rows.specs.Opening.{is_refused};
 ghost use Rattle.start_faults.specs.Starts.{IsUnopened};
 ghost use Rattle.serving.specs.Counts.{none_begun};
-ghost use Rattle.serving.specs.Serves.{GivesFirst};
+ghost use Rattle.serving.specs.Serves.{AreHandled, GivesFirst};
 ghost use Rattle.command_words.specs.ServeWords.{serve_setup_of, serve_words_of};
-ghost use Rattle.server_main.specs.Servers.{EndsBy, GivesBack, Serves, ServesAll, outside};
+ghost use Rattle.server_main.specs.Servers.{EndsBy, GivesBack, Serves, ServesAll, at_once_in, connections_of};
+ghost use Rattle.server_main.specs.Servers.{outside};
 
 use crate::jobs::ServerJob;
 use crate::slots::JobSlots;
@@ -25,8 +26,19 @@ use std::sync::Wait;
 use std::sync::ledger::{Blank, Ledger};
 use std::time;
 
+/// How many connections are served in all: more than ever come, where the words say no number of them.
+fn most_connections(said: ServeWords) -> u64
+    ensures count { result ≡ connections_of said }
+    ensures few { result ≤ 2 ^ 62 }
+{
+    match said.connections {
+        Some(connections) => u64::from(connections),
+        None => 1 << 62,
+    }
+}
+
 /// Serves links and workers over a server that stands.
-#[tactic(auto, using(crate::proofs::Beginning::ends_so, crate::proofs::Beginning::gives_none))]
+#[tactic(auto, using(crate::proofs::Beginning::ends_so, crate::proofs::Beginning::gives_none, crate::proofs::Beginning::none_handled))]
 fn serve_over<R, H, C, L, T, D, P>(
     rt: T,
     alloc: Global,
@@ -47,21 +59,21 @@ where
     T: Wait + time::Clock + Copy + Drop,
     D: Doors,
     P: Spawner<ServerJob<D::Source, D::Sink, R, H, C, L, T>>,
-    requires few { (said.connections ≤ 1000000) × (said.workers ≤ 8) }
+    requires few { (said.at_once ≤ 4096) × (said.workers ≤ 8) }
     requires name { blank.name ≡ L.name }
-    requires parts { (blank.parts ≡ L.parts) × (blank.parts ≡ said.connections + said.workers + 1) }
+    requires parts { (blank.parts ≡ L.parts) × (blank.parts ≡ said.at_once + said.workers + 1) }
     requires doors { (D.seen doors.old).given ≡ 0 }
     requires idle { P.counts spawner.old ≡ none_begun }
     requires ready { P.ready spawner.old }
     ensures ends { EndsBy said result
         (outside (D.seen doors.old) (P.counts spawner.old) (P.failures spawner.old))
         (outside (D.seen doors.new) (P.counts spawner.new) (P.failures spawner.new)) }
-    ensures begun { (P.counts spawner.new).links ≡ (D.seen doors.new).given }
+    ensures handled { AreHandled said.at_once (D.seen doors.new).given (P.counts spawner.new) }
     ensures first { GivesFirst 0 (D.seen doors.new).given (D.left doors.old) (D.left doors.new) }
     ensures beside { (P.counts spawner.new).late ≡ false }
     ensures out { (P.counts spawner.new).out ≡ 0 }
 {
-    let tickets = said.connections + said.workers + 1;
+    let tickets = said.at_once + said.workers + 1;
     let slots = JobSlots::<R, H, C, L, T>::new(
         rt, alloc, machine, host, clock, boot, tickets, blank,
     );
@@ -73,14 +85,15 @@ where
         &mut slots,
         doors,
         spawner,
-        said.connections,
+        most_connections(said),
+        said.at_once as usize,
         said.workers,
     )
 }
 
 /// Opens the rows of the keeper and serves links and workers over them. Where they are not opened,
 /// the keeper is given back.
-#[tactic(auto, using(crate::proofs::Beginning::server_begun, crate::proofs::Beginning::rows_unopened, crate::proofs::Beginning::gives_none))]
+#[tactic(auto, using(crate::proofs::Beginning::server_begun, crate::proofs::Beginning::rows_unopened, crate::proofs::Beginning::gives_none, crate::proofs::Beginning::none_handled))]
 fn serve_said<R, H, C, L, T, D, P>(
     rt: T,
     alloc: Global,
@@ -101,9 +114,9 @@ where
     T: Wait + time::Clock + Copy + Drop,
     D: Doors,
     P: Spawner<ServerJob<D::Source, D::Sink, R, H, C, L, T>>,
-    requires few { (said.connections ≤ 1000000) × (said.workers ≤ 8) }
+    requires few { (said.at_once ≤ 4096) × (said.workers ≤ 8) }
     requires name { blank.name ≡ L.name }
-    requires parts { (blank.parts ≡ L.parts) × (blank.parts ≡ said.connections + said.workers + 1) }
+    requires parts { (blank.parts ≡ L.parts) × (blank.parts ≡ said.at_once + said.workers + 1) }
     requires doors { (D.seen doors.old).given ≡ 0 }
     requires idle { P.counts spawner.old ≡ none_begun }
     requires ready { P.ready spawner.old }
@@ -111,7 +124,7 @@ where
         Serves words (R.store keeper) (option_map R.store result.1)
         (outside (D.seen doors.old) (P.counts spawner.old) (P.failures spawner.old))
         (outside (D.seen doors.new) (P.counts spawner.new) (P.failures spawner.new)) result.0 }
-    ensures begun { (P.counts spawner.new).links ≡ (D.seen doors.new).given }
+    ensures handled { AreHandled said.at_once (D.seen doors.new).given (P.counts spawner.new) }
     ensures first { GivesFirst 0 (D.seen doors.new).given (D.left doors.old) (D.left doors.new) }
     ensures beside { (P.counts spawner.new).late ≡ false }
     ensures out { (P.counts spawner.new).out ≡ 0 }
@@ -129,7 +142,7 @@ where
 }
 
 /// Reads the words, and serves what they ask for.
-#[tactic(auto, using(crate::proofs::Beginning::words_unread, crate::proofs::Beginning::words_refused, crate::proofs::Beginning::gives_none))]
+#[tactic(auto, using(crate::proofs::Beginning::words_unread, crate::proofs::Beginning::words_refused, crate::proofs::Beginning::gives_none, crate::proofs::Beginning::none_handled, crate::proofs::Beginning::at_once_said))]
 fn serve_any<R, H, C, L, T, D, P>(
     rt: T,
     alloc: Global,
@@ -160,7 +173,8 @@ where
         (R.store keeper) (option_map R.store result.1)
         (outside (D.seen doors.old) (P.counts spawner.old) (P.failures spawner.old))
         (outside (D.seen doors.new) (P.counts spawner.new) (P.failures spawner.new)) result.0 }
-    ensures begun { (P.counts spawner.new).links ≡ (D.seen doors.new).given }
+    ensures handled { AreHandled (at_once_in (map (λ w. string_bytes w) words.now)) (D.seen doors.new).given
+        (P.counts spawner.new) }
     ensures first { GivesFirst 0 (D.seen doors.new).given (D.left doors.old) (D.left doors.new) }
     ensures beside { (P.counts spawner.new).late ≡ false }
     ensures out { (P.counts spawner.new).out ≡ 0 }
@@ -175,10 +189,11 @@ where
 }
 
 /// All that the program does, by the words of its command line. It starts the workers, serves so
-/// many connections as the words say, or all that there are, each by a job of its own, and takes in
-/// all that it started: the links first, and the workers after the server was closed. The boot word
-/// is that of the ids of operations. It gives the exit status, and the keeper back where no server
-/// was begun.
+/// many connections as the words say, or all that there are, each by a job of its own, and so many of
+/// them at once as the words say: others are turned away. It takes in all that it started: links that
+/// have ended as others come, the rest of them at the end, and the workers after the server was
+/// closed. The boot word is that of the ids of operations. It gives the exit status, and the keeper
+/// back where no server was begun.
 pub fn serve_main<R, H, C, L, T, D, P>(
     rt: T,
     alloc: Global,
@@ -214,10 +229,11 @@ where
         (outside (D.seen doors.old) (P.counts spawner.old) (P.failures spawner.old))
         (outside (D.seen doors.new) (P.counts spawner.new) (P.failures spawner.new)) result.0 }
 
-    // Of every end: a job was begun for each link that was given, which were the first of those that
-    // the doors told, no job was begun after one had been waited for, and nothing that was started is
-    // left.
-    ensures begun { (P.counts spawner.new).links ≡ (D.seen doors.new).given }
+    // Of every end: each link that was given had its job begun, or declined, or was turned away; they
+    // were the first of those that the doors told, no job was begun after one that had not ended had
+    // been waited for, and nothing that was started is left.
+    ensures handled { AreHandled (at_once_in (map (λ w. string_bytes w) words.now)) (D.seen doors.new).given
+        (P.counts spawner.new) }
     ensures first { GivesFirst 0 (D.seen doors.new).given (D.left doors.old) (D.left doors.new) }
     ensures beside { (P.counts spawner.new).late ≡ false }
     ensures out { (P.counts spawner.new).out ≡ 0 }

@@ -1,11 +1,13 @@
-ghost use Rattle.std.specs.Prelude.{◌≡◌, ◌+◌, ◌≤◌, IfOk, OnErr, false, vec_len};
+ghost use Rattle.std.specs.Prelude.{◌≡◌, ◌+◌, ◌≤◌, IfOk, OnOk, false, vec_len, vec_capacity};
+ghost use Rattle.serving.specs.Slots.{KeepsSlot};
 
+use crate::busy::BUSY;
 use crate::jobs::{JobEnd, ServerJob};
 use host_model::Host;
 use http_front::{Clock, Sink, Source};
 use record_keeper::Keeper;
 use row_machine::Event;
-use serve_loop::{DaemonMachine, LockedGate};
+use serve_loop::{DaemonMachine, Gate, LockedGate};
 use serving::{Jobs, LockedHost};
 use size_values::NoMemory;
 use std::alloc::Global;
@@ -14,19 +16,36 @@ use std::sync::{Arc, Wait};
 use std::time;
 use turnstile::{Ticket, Turnstile};
 
-/// What the jobs of one server share: the server under its lock, the host under another, the clock,
-/// and the boot word of the ids of operations. Each ticket that is left is a slot for a job.
+/// What the jobs of one server share: the gates to the server under its lock that no job has, the host under another
+/// lock, the clock, and the boot word of the ids of operations. Each gate is a slot for a job.
 #[derive(Drop)]
 pub struct JobSlots<R: Keeper, H, C, L: Ledger, T: Wait + time::Clock> {
     rt: T,
     alloc: Global,
-    turnstile: Arc<Turnstile<DaemonMachine<R>, L>, Global>,
-    tickets: Vec<Ticket<L>>,
+    gates: Vec<LockedGate<R, L, T>>,
     host: LockedHost<H, T>,
     clock: C,
     boot: u64,
     /// Whether the server was closed.
     closed: bool,
+}
+
+/// A gate for each of these tickets.
+fn gates_of<R: Keeper + Drop, L: Ledger, T: Wait + time::Clock + Copy + Drop>(
+    rt: T,
+    alloc: Global,
+    turnstile: Arc<Turnstile<DaemonMachine<R>, L>, Global>,
+    mut tickets: Vec<Ticket<L>>,
+) -> Result<Vec<LockedGate<R, L, T>>, NoMemory>
+    ensures count { IfOk result (λ gates. vec_len gates ≡ vec_len tickets) }
+    ensures room { IfOk result (λ gates. vec_len gates ≤ vec_capacity gates) }
+{
+    let mut gates = Vec::with_capacity(alloc, tickets.len())?;
+    while let Some(ticket) = tickets.pop() {
+        let shared = Arc::try_clone(&turnstile)?;
+        gates.push_reserved(LockedGate::new(rt, shared, ticket));
+    }
+    Ok(gates)
 }
 
 impl<
@@ -51,7 +70,8 @@ impl<
         requires some { 1 ≤ tickets }
         requires name { blank.name ≡ L.name }
         requires parts { (blank.parts ≡ L.parts) × (blank.parts ≡ tickets) }
-        ensures slots { IfOk result (λ s. vec_len s.tickets ≡ tickets) }
+        ensures slots { IfOk result (λ s. vec_len s.gates ≡ tickets) }
+        ensures room { IfOk result (λ s. vec_len s.gates ≤ vec_capacity s.gates) }
         ensures open { IfOk result (λ s. s.closed ≡ false) }
     {
         let host = LockedHost::new(rt, alloc, host)?;
@@ -59,29 +79,16 @@ impl<
             return Err(NoMemory);
         };
         let turnstile = Arc::new(alloc, turnstile)?;
+        let gates = gates_of(rt, alloc, turnstile, tickets)?;
         Ok(JobSlots {
             rt,
             alloc,
-            turnstile,
-            tickets,
+            gates,
             host,
             clock,
             boot,
             closed: false,
         })
-    }
-}
-
-impl<R: Keeper + Drop, H, C, L: Ledger, T: Wait + time::Clock + Drop> JobSlots<R, H, C, L, T> {
-    /// Puts the ticket of a gate back, where the list has room for it.
-    fn put_back(&mut self, gate: LockedGate<R, L, T>)
-        ensures slots { vec_len self.old.tickets ≤ vec_len self.new.tickets }
-        ensures closed { self.new.closed ≡ self.old.closed }
-    {
-        let ticket = gate.into_ticket();
-        if self.tickets.len() < self.tickets.capacity() {
-            self.tickets.push_reserved(ticket);
-        }
     }
 }
 
@@ -100,23 +107,17 @@ impl<
 
     type Slot = LockedGate<R, L, T>;
 
-    ghost slots = { λ s. vec_len s.tickets };
+    ghost slots = { λ s. vec_len s.gates };
+
+    ghost room = { λ s. vec_capacity s.gates };
 
     ghost closed = { λ s. s.closed };
 
-    fn slot(&mut self) -> Result<LockedGate<R, L, T>, NoMemory>
-        requires left { 1 ≤ vec_len self.old.tickets }
-        ensures slots { vec_len self.old.tickets ≤ vec_len self.new.tickets + 1 }
-        ensures closed { self.new.closed ≡ self.old.closed }
-
-        // Where memory is refused, every ticket is left.
-        ensures kept { OnErr result (self.new.tickets ≡ self.old.tickets) }
-    {
-        let turnstile = Arc::try_clone(&self.turnstile)?;
-        let Some(ticket) = self.tickets.pop() else {
+    fn slot(&mut self) -> LockedGate<R, L, T> {
+        let Some(gate) = self.gates.pop() else {
             unreachable!();
         };
-        Ok(LockedGate::new(self.rt, turnstile, ticket))
+        gate
     }
 
     fn link_job(
@@ -136,6 +137,11 @@ impl<
         }
     }
 
+    fn turn_away(&mut self, source: S, mut sink: K) {
+        let _told = sink.write(BUSY);
+        drop(source);
+    }
+
     fn worker_job(
         &mut self,
         slot: LockedGate<R, L, T>,
@@ -148,25 +154,27 @@ impl<
                 clock: self.clock.twin(),
             }),
             Err(NoMemory) => {
-                self.put_back(slot);
+                self.gates.push_reserved(slot);
                 Err(NoMemory)
             }
         }
     }
 
     fn take_back(&mut self, out: JobEnd<R, L, T>) {
-        match out {
-            JobEnd::Link(_, gate) => self.put_back(gate),
-            JobEnd::Worker(gate) => self.put_back(gate),
-        }
+        let gate = match out {
+            JobEnd::Link(_, gate) => gate,
+            JobEnd::Declined(gate) => gate,
+            JobEnd::Worker(gate) => gate,
+        };
+        self.gates.push_reserved(gate);
     }
 
-    /// One turn of the server by a ticket that is left: it hands no call out any more once none waits.
+    /// One turn of the server at a gate that is left: it hands no call out any more once none waits.
     fn close(&mut self) {
-        let Some(ticket) = self.tickets.last_mut() else {
+        let Some(gate) = self.gates.last_mut() else {
             unreachable!();
         };
-        let answer = self.turnstile.turn(&self.rt, ticket, Event::Close);
+        let answer = gate.turn(Event::Close);
         drop(answer);
         self.closed = true;
     }

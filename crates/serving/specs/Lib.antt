@@ -1,4 +1,5 @@
 pub mod Counts
+pub mod Slots
 pub mod Accepts
 pub mod Passing
 pub mod Serves

@@ -13,4 +13,7 @@ pub trait Job {
 
     /// Does the work. It may wait for others.
     fn run(self) -> Self::Out;
+
+    /// Gives the work up before it begins: a link is told that the server is busy. It waits for nobody.
+    fn decline(self) -> Self::Out;
 }

@@ -8,19 +8,40 @@ use std::marker::Model;
 use std::net::{Ipv4Addr, Net, OpenListener, OpenStream, SocketAddr};
 use std::time::Duration;
 
-/// How many seconds the links of `listen` wait for the other end to take some bytes.
-const PATIENCE: u64 = 60;
+/// What is told of doors to a person, and how long they rest after a failure.
+pub trait DoorEvents {
+    /// The doors were opened: they listen, or the port can't be had.
+    fn opened(&mut self, is_listening: bool);
 
-/// Doors over a listener. They tell no links, and never answer that none is left.
+    /// A connection could not be accepted, for want of handles or memory, say. The doors try again once this returns,
+    /// so it lets some time go by.
+    fn failed(&mut self, kind: ErrorKind);
+}
+
+/// How long the links of doors are waited for.
+#[derive(Clone, Copy)]
+pub struct LinkTimes {
+    /// A read fails where the other end sends nothing for as long.
+    pub idle: Duration,
+    /// A write fails where the other end takes nothing for as long.
+    pub patience: Duration,
+}
+
+/// Doors over a port, which is listened on from the first accept on. They tell no links, and never answer that none is
+/// left. An accept fails only where the port can't be had.
 #[derive(Drop)]
-pub struct NetDoors<T> {
-    listener: Option<T>,
-    patience: Duration,
+pub struct NetDoors<N: Net, E> {
+    net: N,
+    address: SocketAddr,
+    listener: Option<N::Listener>,
+    was_opened: bool,
+    times: LinkTimes,
+    events: E,
     given: u64,
     faults: u64,
 }
 
-impl<T> Model for NetDoors<T> {
+impl<N: Net, E> Model for NetDoors<N, E> {
     ghost use Rattle.std.specs.Prelude.{false};
     ghost use Rattle.serving.specs.Accepts.{Seen};
 
@@ -29,33 +50,55 @@ impl<T> Model for NetDoors<T> {
     ghost view = { λ d. record { given = d.given; none_left = false; failed = d.faults } };
 }
 
-impl<T> NetDoors<T> {
-    /// Doors over a listener; where there is none, each accept fails. A write to a link of theirs fails where the other
-    /// end takes nothing for as long as `patience`, which is not 0.
-    pub fn new(listener: Option<T>, patience: Duration) -> NetDoors<T>
+impl<N: Net, E: DoorEvents> NetDoors<N, E> {
+    /// Doors over this port of 127.0.0.1, which are not open yet.
+    pub fn at(net: N, port: u16, times: LinkTimes, events: E) -> NetDoors<N, E>
         ensures { result ≡ record { given = 0; none_left = false; failed = 0 } }
     {
         NetDoors {
-            listener,
-            patience,
+            net,
+            address: SocketAddr::from((Ipv4Addr::LOCALHOST, port)),
+            listener: None,
+            was_opened: false,
+            times,
+            events,
             given: 0,
             faults: 0,
         }
     }
 
-    /// Whether there is a listener.
-    pub fn is_listening(&self) -> bool {
-        self.listener.is_some()
+    /// Doors over a listener that stands.
+    pub fn over(net: N, listener: N::Listener, times: LinkTimes, events: E) -> NetDoors<N, E>
+        ensures { result ≡ record { given = 0; none_left = false; failed = 0 } }
+    {
+        NetDoors {
+            net,
+            address: SocketAddr::from((Ipv4Addr::LOCALHOST, 0)),
+            listener: Some(listener),
+            was_opened: true,
+            times,
+            events,
+            given: 0,
+            faults: 0,
+        }
+    }
+
+    /// Listens on the port, where that was not tried yet.
+    fn open(&mut self)
+        ensures { self.new ≡ self.old }
+    {
+        if !self.was_opened {
+            self.was_opened = true;
+            self.listener = self.net.bind(self.address).ok();
+            self.events.opened(self.listener.is_some());
+        }
     }
 }
 
-impl<T: OpenListener> Doors for NetDoors<T>
-where
-    T::Stream: Read + Write + OpenStream,
-{
-    type Source = ReaderSource<T::Stream>;
+impl<N: Net, E: DoorEvents> Doors for NetDoors<N, E> {
+    type Source = ReaderSource<N::Stream>;
 
-    type Sink = WriterSink<T::Stream>;
+    type Sink = WriterSink<N::Stream>;
 
     ghost use Rattle.std.specs.Prelude.{None};
 
@@ -65,8 +108,9 @@ where
 
     fn accept(
         &mut self,
-    ) -> Result<Option<Link<ReaderSource<T::Stream>, WriterSink<T::Stream>>>, DoorsFailed> {
-        match next_link(&self.listener, self.patience) {
+    ) -> Result<Option<Link<ReaderSource<N::Stream>, WriterSink<N::Stream>>>, DoorsFailed> {
+        self.open();
+        match next_link(&self.listener, self.times, &mut self.events) {
             Some(link) => {
                 self.given += 1;
                 Ok(Some(link))
@@ -87,44 +131,47 @@ where
     }
 }
 
-/// Doors over a listener on this port of 127.0.0.1. Where it can't be had, each accept fails.
-pub fn listen<R: Net>(net: &R, port: u16) -> NetDoors<R::Listener>
-    ensures { result ≡ record { given = 0; none_left = false; failed = 0 } }
-{
-    let address = SocketAddr::from((Ipv4Addr::LOCALHOST, port));
-    NetDoors::new(net.bind(address).ok(), Duration::from_secs(PATIENCE))
-}
-
-/// The next connection, as two handles of its stream.
-fn next_link<T: OpenListener>(
+/// The next connection, as two handles of its stream. One of which a second handle can't be had is let go.
+fn next_link<T: OpenListener, E: DoorEvents>(
     listener: &Option<T>,
-    patience: Duration,
+    times: LinkTimes,
+    events: &mut E,
 ) -> Option<Link<ReaderSource<T::Stream>, WriterSink<T::Stream>>>
 where
-    T::Stream: Read + Write + OpenStream,
+    T::Stream: Read + Write + OpenStream + Drop,
 {
-    let stream = next_stream(listener.as_ref()?)?;
-    stream.set_write_timeout(Some(patience)).ok()?;
-    // Each reply and each event is one write, which is not to wait for the client's answer to the one
-    // before. Where this can't be had, they are slower.
-    let _at_once = stream.set_nodelay(true);
-    let twin = stream.try_clone().ok()?;
-    Some(Link {
-        source: ReaderSource::new(twin),
-        sink: WriterSink::new(stream),
-    })
-}
-
-/// The next stream of a listener. A connection that broke off before it was accepted is passed over.
-fn next_stream<T: OpenListener>(listener: &T) -> Option<T::Stream> {
+    let listener = listener.as_ref()?;
     for _ in 0..u64::MAX {
         match listener.accept() {
-            Ok((stream, _)) => return Some(stream),
+            Ok((stream, _)) => match link_of(stream, times) {
+                Ok(link) => return Some(link),
+                Err(kind) => events.failed(kind),
+            },
             Err(error) if breaks_off(error.kind()) => {}
-            Err(_) => return None,
+            Err(error) => events.failed(error.kind()),
         }
     }
     None
+}
+
+/// The two handles of a stream.
+fn link_of<S: Read + Write + OpenStream + Drop>(
+    stream: S,
+    times: LinkTimes,
+) -> Result<Link<ReaderSource<S>, WriterSink<S>>, ErrorKind> {
+    // Where one of these can't be had, the client is waited for longer.
+    let _read = stream.set_read_timeout(Some(times.idle));
+    let _write = stream.set_write_timeout(Some(times.patience));
+    // Each reply and each event is one write, which is not to wait for the client's answer to the one
+    // before. Where this can't be had, they are slower.
+    let _at_once = stream.set_nodelay(true);
+    match stream.try_clone() {
+        Ok(twin) => Ok(Link {
+            source: ReaderSource::new(twin),
+            sink: WriterSink::new(stream),
+        }),
+        Err(error) => Err(error.kind()),
+    }
 }
 
 /// Whether an accept failed for the sake of one connection, or of a signal, and not of the listener.

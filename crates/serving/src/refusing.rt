@@ -1,7 +1,7 @@
 ghost use Rattle.std.specs.Prelude.{◌≡◌, is_ok, not};
 ghost use Rattle.size_values.specs.Causes.{HasCause};
 ghost use Rattle.size_values.specs.Calls.{after_call, is_next_failing, no_calls};
-ghost use Rattle.serving.specs.Counts.{AreSmall, Runs, Starts, none_begun};
+ghost use Rattle.serving.specs.Counts.{AreSmall, Starts, StartsOrDeclines, none_begun};
 
 use crate::job::Job;
 use crate::spawner::{Spawner, StartFailed};
@@ -68,20 +68,24 @@ impl<J: Job + Drop> Spawner<J> for RefusingSpawner {
         Ok(Kept { job })
     }
 
-    fn start_or_run(&mut self, job: J) -> Result<Kept<J>, J::Out>
+    fn start_or_decline(&mut self, job: J) -> Result<Kept<J>, J::Out>
         requires small { AreSmall self.old.counts }
-        ensures counts { Runs (J.link job) self.old.counts self.new.counts result }
+        ensures counts { StartsOrDeclines (J.link job) self.old.counts self.new.counts result }
         ensures cause { HasCause self.old.calls.failed self.new.calls.failed result }
         ensures fails { is_ok result ≡ not (is_next_failing self.old.calls) }
         ensures calls { self.new.calls ≡ after_call self.old.calls }
     {
-        let link = job.is_link();
         if self.calls.next() {
-            self.tally.begin(link);
-            return Err(job.run());
+            self.tally.decline();
+            return Err(job.decline());
         }
-        self.tally.start(link);
+        self.tally.start(job.is_link());
         Ok(Kept { job })
+    }
+
+    /// No job has ended before it is taken in.
+    fn take_ended(&mut self, task: Kept<J>) -> Result<J::Out, Kept<J>> {
+        Err(task)
     }
 
     fn take(&mut self, task: Kept<J>) -> J::Out {

@@ -1,6 +1,6 @@
-ghost use Rattle.std.specs.Prelude.{◌≡◌, ◌+◌, ◌≤◌, ◌^◌, true, false, OnOk, IfErr, vec_len};
+ghost use Rattle.std.specs.Prelude.{◌≡◌, ◌+◌, ◌≤◌, ◌^◌, true, false, OnOk, IfErr, vec_len, vec_capacity};
 ghost use Rattle.serving.specs.Counts.{none_begun};
-ghost use Rattle.serving.specs.Serves.{BeginsAll, GivesFirst, IsServed, IsEnough};
+ghost use Rattle.serving.specs.Serves.{AreHandled, BeginsAll, GivesFirst, IsServed, IsEnough};
 ghost use Rattle.serving.specs.Troubles.{IsCaused};
 
 use crate::door::Doors;
@@ -13,27 +13,32 @@ use crate::trouble::Trouble;
 use crate::workers::start_workers;
 use std::alloc::Global;
 
-/// Starts the workers, serves so many links, or all that there are, each by a job of its own, and takes in all that was
-/// started: the links first, which may wait for what the workers do, and the workers after they were told to end.
+/// Starts the workers, serves so many links, or all that there are, each by a job of its own, `at_once` of them beside
+/// each other at most, and takes in all that was started: links that have ended as others come, the other links at the
+/// end, which may wait for what the workers do, and the workers after they were told to end.
 pub fn serve<J: Job, B: Jobs<J>, D: Doors<Source = B::Source, Sink = B::Sink>, P: Spawner<J>>(
     alloc: Global,
     jobs: &mut B,
     doors: &mut D,
     spawner: &mut P,
-    connections: u32,
+    connections: u64,
+    at_once: usize,
     workers: u32,
 ) -> Result<(), Trouble>
-    requires slots { connections + workers + 1 ≤ B.slots jobs.old }
+    requires few { connections ≤ 2 ^ 62 }
+    requires slots { at_once + workers + 1 ≤ B.slots jobs.old }
+    requires room { B.slots jobs.old ≤ B.room jobs.old }
     requires doors { (D.seen doors.old).given ≡ 0 }
     requires idle { P.counts spawner.old ≡ none_begun }
     requires ready { P.ready spawner.old }
-    ensures served { OnOk result (IsServed connections workers (D.seen doors.new) (P.counts spawner.new)) }
+    ensures served { OnOk result (IsServed connections at_once workers (D.seen doors.new) (P.counts spawner.new)) }
     ensures cause { IfErr result (λ t. IsCaused t (D.seen doors.old).failed (D.seen doors.new).failed
         (P.failures spawner.old) (P.failures spawner.new)) }
 
-    // Of every end: a job was begun for each link that was given, which were the first of those that the doors told,
-    // all that were started ran beside each other, and nothing that was started is left.
-    ensures begun { (P.counts spawner.new).links ≡ (D.seen doors.new).given }
+    // Of every end: a job was begun or declined for each link that was given, or it was turned away; those given were
+    // the first of those that the doors told, all that were started ran beside each other, and nothing that was started
+    // is left.
+    ensures handled { AreHandled at_once (D.seen doors.new).given (P.counts spawner.new) }
     ensures first { GivesFirst 0 (D.seen doors.new).given (D.left doors.old) (D.left doors.new) }
     ensures few { (D.seen doors.new).given ≤ connections }
     ensures workers { (P.counts spawner.new).others ≤ workers }
@@ -50,6 +55,7 @@ pub fn serve<J: Job, B: Jobs<J>, D: Doors<Source = B::Source, Sink = B::Sink>, P
         &mut links,
         &mut others,
         connections,
+        at_once,
         workers,
     );
     take_in(jobs, spawner, links);
@@ -66,24 +72,32 @@ fn begin_all<J: Job, B: Jobs<J>, D: Doors<Source = B::Source, Sink = B::Sink>, P
     spawner: &mut P,
     links: &mut Vec<P::Task>,
     others: &mut Vec<P::Task>,
-    connections: u32,
+    connections: u64,
+    at_once: usize,
     workers: u32,
 ) -> Result<(), Trouble>
-    requires slots { connections + workers + 1 ≤ B.slots jobs.old }
+    requires few { connections ≤ 2 ^ 62 }
+    requires slots { at_once + workers + 1 ≤ B.slots jobs.old }
+    requires room { B.slots jobs.old ≤ B.room jobs.old }
     requires doors { (D.seen doors.old).given ≡ 0 }
     requires idle { P.counts spawner.old ≡ none_begun }
     requires empty { (vec_len links.old ≡ 0) × (vec_len others.old ≡ 0) }
     requires ready { P.ready spawner.old }
-    ensures begun { BeginsAll (P.counts spawner.new) (vec_len links.new) (vec_len others.new) (D.seen doors.new).given }
+    ensures begun { BeginsAll at_once (P.counts spawner.new) (vec_len links.new) (vec_len others.new)
+        (D.seen doors.new).given }
     ensures enough { OnOk result (IsEnough 0 connections (D.seen doors.new) × (vec_len others.new ≡ workers)) }
     ensures few { ((D.seen doors.new).given ≤ connections) × (vec_len others.new ≤ workers) }
     ensures first { GivesFirst 0 (D.seen doors.new).given (D.left doors.old) (D.left doors.new) }
     ensures cause { IfErr result (λ t. IsCaused t (D.seen doors.old).failed (D.seen doors.new).failed
         (P.failures spawner.old) (P.failures spawner.new)) }
     ensures slots { 1 ≤ B.slots jobs.new }
+    ensures room { B.slots jobs.new + vec_len links.new + vec_len others.new ≤ B.room jobs.new }
     ensures ready { P.ready spawner.new }
 {
+    if links.reserve(at_once).is_err() {
+        return Err(Trouble::NoMemory);
+    }
     start_workers(jobs, spawner, others, workers)?;
-    accept_links(jobs, doors, spawner, links, connections)?;
+    accept_links(jobs, doors, spawner, links, connections, at_once)?;
     Ok(())
 }

@@ -1,6 +1,6 @@
 ghost use Rattle.std.specs.Prelude.{◌≡◌, ℕ, ◌≤◌, if◌then◌else◌};
 ghost use Rattle.size_values.specs.Causes.{HasCause};
-ghost use Rattle.serving.specs.Counts.{Counts, AreSmall, Starts, Runs, without_task};
+ghost use Rattle.serving.specs.Counts.{Counts, AreSmall, Starts, StartsOrDeclines, TakesEnded, without_task};
 
 use crate::job::Job;
 use thiserror::Error;
@@ -31,12 +31,20 @@ pub trait Spawner<J: Job> {
         ensures cause { HasCause (failures self.old) (failures self.new) result }
         ensures ready { ready self.new };
 
-    /// Starts the job. One that is refused is run here, before the call returns.
-    fn start_or_run(&mut self, job: J) -> Result<Self::Task, J::Out>
+    /// Starts the job. One that is refused is declined, before the call returns.
+    fn start_or_decline(&mut self, job: J) -> Result<Self::Task, J::Out>
         requires small { AreSmall (counts self.old) }
         requires ready { ready self.old }
-        ensures counts { Runs (J.link job) (counts self.old) (counts self.new) result }
+        ensures counts { StartsOrDeclines (J.link job) (counts self.old) (counts self.new) result }
         ensures cause { HasCause (failures self.old) (failures self.new) result }
+        ensures ready { ready self.new };
+
+    /// Takes in what is left of a job that has ended, without waiting, or gives its task back.
+    fn take_ended(&mut self, task: Self::Task) -> Result<J::Out, Self::Task>
+        requires out { 1 ≤ (counts self.old).out }
+        requires ready { ready self.old }
+        ensures counts { TakesEnded (counts self.old) (counts self.new) result }
+        ensures failures { failures self.new ≡ failures self.old }
         ensures ready { ready self.new };
 
     /// Waits for the end of a job, and takes in what is left of it.

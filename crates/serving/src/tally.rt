@@ -1,14 +1,15 @@
 ghost use Rattle.std.specs.Prelude.{◌≡◌, ◌≤◌, if◌then◌else◌};
-ghost use Rattle.serving.specs.Counts.{AreSmall, begun, none_begun, with_task, without_task};
+ghost use Rattle.serving.specs.Counts.{AreSmall, begun, declined, none_begun, with_task, without_ended, without_task};
 
 use std::marker::Model;
 
-/// Counts the jobs of a spawner that were begun and the tasks that are out, and tells whether a job was begun after a
-/// task was waited for.
+/// Counts the jobs of a spawner that were begun or declined and the tasks that are out, and tells whether a job was begun
+/// after a task was waited for.
 #[derive(Drop)]
 pub(crate) struct Tally {
     links: u64,
     others: u64,
+    declined: u64,
     out: u64,
     waited: bool,
     late: bool,
@@ -19,7 +20,7 @@ impl Model for Tally {
 
     ghost Value = { Counts };
 
-    ghost view = { λ t. record { links = t.links; others = t.others; out = t.out; waited = t.waited; late = t.late } };
+    ghost view = { λ t. record { links = t.links; others = t.others; declined = t.declined; out = t.out; waited = t.waited; late = t.late } };
 }
 
 impl Tally {
@@ -29,6 +30,7 @@ impl Tally {
         Tally {
             links: 0,
             others: 0,
+            declined: 0,
             out: 0,
             waited: false,
             late: false,
@@ -55,6 +57,22 @@ impl Tally {
     {
         self.begin(link);
         self.out += 1;
+    }
+
+    /// One more job was declined.
+    pub(crate) fn decline(&mut self)
+        requires { AreSmall self.old }
+        ensures { self.new ≡ declined self.old }
+    {
+        self.declined += 1;
+    }
+
+    /// A task was taken in, whose job had ended.
+    pub(crate) fn take_ended(&mut self)
+        requires { 1 ≤ self.old.out }
+        ensures { self.new ≡ without_ended self.old }
+    {
+        self.out -= 1;
     }
 
     /// A task was waited for and taken in.

@@ -1,4 +1,4 @@
-ghost use Rattle.std.specs.Prelude.{◌≡◌, ◌+◌, ◌≤◌, IfOk, OnOk, vec_len};
+ghost use Rattle.std.specs.Prelude.{◌≡◌, ◌+◌, ◌≤◌, OnOk, vec_len};
 ghost use Rattle.size_values.specs.Causes.{HasCauseOrMemory};
 ghost use Rattle.serving.specs.Serves.{HasRoom, StartsWorkers};
 
@@ -16,7 +16,8 @@ pub(crate) fn start_workers<J: Job, B: Jobs<J>, P: Spawner<J>>(
     workers: u32,
 ) -> Result<(), Or<StartFailed>>
     requires slots { workers ≤ B.slots jobs.old }
-    requires room { HasRoom (P.counts spawner.old) workers }
+    requires room { B.slots jobs.old ≤ B.room jobs.old }
+    requires small { HasRoom (P.counts spawner.old) workers }
     requires ready { P.ready spawner.old }
     ensures started { StartsWorkers (P.counts spawner.old) (P.counts spawner.new) (vec_len tasks.old)
         (vec_len tasks.new) }
@@ -24,6 +25,8 @@ pub(crate) fn start_workers<J: Job, B: Jobs<J>, P: Spawner<J>>(
     ensures few { vec_len tasks.new ≤ vec_len tasks.old + workers }
     ensures cause { HasCauseOrMemory (P.failures spawner.old) (P.failures spawner.new) result }
     ensures slots { B.slots jobs.old ≤ B.slots jobs.new + workers }
+    ensures used { B.slots jobs.new + vec_len tasks.new ≤ B.slots jobs.old + vec_len tasks.old }
+    ensures room { B.room jobs.old ≤ B.room jobs.new }
     ensures ready { P.ready spawner.new }
 {
     for _i in 0..workers {
@@ -43,7 +46,8 @@ fn start_worker<J: Job, B: Jobs<J>, P: Spawner<J>>(
     tasks: &mut Vec<P::Task>,
 ) -> Result<(), Or<StartFailed>>
     requires slots { 1 ≤ B.slots jobs.old }
-    requires room { HasRoom (P.counts spawner.old) 1 }
+    requires room { B.slots jobs.old ≤ B.room jobs.old }
+    requires small { HasRoom (P.counts spawner.old) 1 }
     requires ready { P.ready spawner.old }
     ensures started { StartsWorkers (P.counts spawner.old) (P.counts spawner.new) (vec_len tasks.old)
         (vec_len tasks.new) }
@@ -51,10 +55,12 @@ fn start_worker<J: Job, B: Jobs<J>, P: Spawner<J>>(
     ensures few { vec_len tasks.new ≤ vec_len tasks.old + 1 }
     ensures cause { HasCauseOrMemory (P.failures spawner.old) (P.failures spawner.new) result }
     ensures slots { B.slots jobs.old ≤ B.slots jobs.new + 1 }
+    ensures used { B.slots jobs.new + vec_len tasks.new ≤ B.slots jobs.old + vec_len tasks.old }
+    ensures room { B.room jobs.old ≤ B.room jobs.new }
     ensures ready { P.ready spawner.new }
 {
     tasks.reserve(1)?;
-    let slot = jobs.slot()?;
+    let slot = jobs.slot();
     let job = jobs.worker_job(slot)?;
     match spawner.start(job) {
         Ok(task) => {

@@ -1,6 +1,6 @@
 //! Texts of replies and of lifecycle events that no whole run shows: of the rules O5 and M1, where
 //! memory is refused, of a snapshot that expires, and of each action. All else that replies tell,
-//! and what requests ask for, is told by the runs of `session_runs`.
+//! and what requests ask for, is told by the runs of `tests_sessions`.
 
 use crate::server::{Server, new_server, text};
 use config_lists::{Config, Devices};

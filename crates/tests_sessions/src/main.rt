@@ -1,6 +1,6 @@
-//! `session_runs`: judges the runs on its standard input, prints what is wrong in each that goes
+//! `tests_sessions`: judges the runs on its standard input, prints what is wrong in each that goes
 //! wrong, and then how many runs, requests and replies it judged. Its exit status is 1 where
-//! something is wrong. The format of the runs is described at the head of `judged_runs`.
+//! something is wrong. docs/RUNS.md describes the format of the runs.
 #![tactic(auto)]
 
 mod headers;

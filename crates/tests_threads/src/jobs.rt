@@ -1,5 +1,5 @@
 //! Jobs over links and workers that meet in a few words.
-ghost use Rattle.std.specs.Prelude.{◌≡◌};
+ghost use Rattle.std.specs.Prelude.{◌≡◌, ◌≤◌, IfOk, vec_len, vec_capacity};
 
 use http_front::{Sink, Source};
 use serving::{Job, Jobs, Link};
@@ -20,6 +20,8 @@ pub(crate) struct Board {
     pub(crate) bytes: AtomicU64,
     /// How many workers have ended.
     pub(crate) ended: AtomicU64,
+    /// How many links were turned away, or declined.
+    pub(crate) away: AtomicU64,
     /// 1 once the workers were told to end.
     pub(crate) closed: AtomicU64,
 }
@@ -31,6 +33,7 @@ impl Board {
             served: AtomicU64::new(0),
             bytes: AtomicU64::new(0),
             ended: AtomicU64::new(0),
+            away: AtomicU64::new(0),
             closed: AtomicU64::new(0),
         }
     }
@@ -48,7 +51,7 @@ pub(crate) struct TestJob<S, K, R> {
 }
 
 impl<S: Source + Drop, K: Sink + Drop, R: Wait + Drop> Job for TestJob<S, K, R> {
-    type Out = ();
+    type Out = Arc<Board, Global>;
 
     ghost link = { λ j. j.is_link };
 
@@ -56,7 +59,7 @@ impl<S: Source + Drop, K: Sink + Drop, R: Wait + Drop> Job for TestJob<S, K, R> 
         self.is_link
     }
 
-    fn run(self) {
+    fn run(self) -> Arc<Board, Global> {
         let TestJob {
             rt,
             board,
@@ -76,6 +79,13 @@ impl<S: Source + Drop, K: Sink + Drop, R: Wait + Drop> Job for TestJob<S, K, R> 
                 board.ended.fetch_add(1, Ordering::SeqCst);
             }
         }
+        board
+    }
+
+    fn decline(self) -> Arc<Board, Global> {
+        let TestJob { board, .. } = self;
+        board.away.fetch_add(1, Ordering::SeqCst);
+        board
     }
 }
 
@@ -106,30 +116,39 @@ fn echo<S: Source + Drop, K: Sink + Drop>(mut link: Link<S, K>) -> u64 {
     count
 }
 
-/// Makes the jobs of one server.
+/// Makes the jobs of one server, over slots that are handles of its board.
 #[derive(Drop)]
 pub(crate) struct Bench<S, K, R> {
     rt: R,
-    board: Arc<Board, Global>,
+    boards: Vec<Arc<Board, Global>>,
     meet: u64,
-    slots: u64,
     closed: bool,
     of: PhantomData<(S, K)>,
 }
 
-impl<S, K, R> Bench<S, K, R> {
+impl<S, K, R: Drop> Bench<S, K, R> {
     /// Jobs with so many slots, whose links wait for `meet` of them.
-    pub(crate) fn new(rt: R, board: Arc<Board, Global>, meet: u64, slots: u64) -> Bench<S, K, R>
-        ensures { result.slots ≡ slots }
+    pub(crate) fn new(
+        rt: R,
+        alloc: Global,
+        board: &Arc<Board, Global>,
+        meet: u64,
+        slots: usize,
+    ) -> Result<Bench<S, K, R>, NoMemory>
+        ensures slots { IfOk result (λ b. vec_len b.boards ≡ slots) }
+        ensures room { IfOk result (λ b. vec_len b.boards ≤ vec_capacity b.boards) }
     {
-        Bench {
+        let mut boards = Vec::with_capacity(alloc, slots)?;
+        for _place in 0..slots {
+            boards.push_reserved(Arc::try_clone(board)?);
+        }
+        Ok(Bench {
             rt,
-            board,
+            boards,
             meet,
-            slots,
             closed: false,
             of: PhantomData,
-        }
+        })
     }
 }
 
@@ -141,14 +160,17 @@ impl<S: Source + Drop, K: Sink + Drop, R: Wait + Copy + Drop> Jobs<TestJob<S, K,
 
     type Slot = Arc<Board, Global>;
 
-    ghost slots = { λ b. b.slots };
+    ghost slots = { λ b. vec_len b.boards };
+
+    ghost room = { λ b. vec_capacity b.boards };
 
     ghost closed = { λ b. b.closed };
 
-    fn slot(&mut self) -> Result<Arc<Board, Global>, NoMemory> {
-        self.slots -= 1;
-        let slot = Arc::try_clone(&self.board)?;
-        Ok(slot)
+    fn slot(&mut self) -> Arc<Board, Global> {
+        let Some(board) = self.boards.pop() else {
+            unreachable!();
+        };
+        board
     }
 
     fn link_job(&mut self, slot: Arc<Board, Global>, source: S, sink: K) -> TestJob<S, K, R> {
@@ -161,6 +183,14 @@ impl<S: Source + Drop, K: Sink + Drop, R: Wait + Copy + Drop> Jobs<TestJob<S, K,
         }
     }
 
+    fn turn_away(&mut self, source: S, sink: K) {
+        if let Some(board) = self.boards.last() {
+            board.away.fetch_add(1, Ordering::SeqCst);
+        }
+        drop(source);
+        drop(sink);
+    }
+
     fn worker_job(&mut self, slot: Arc<Board, Global>) -> Result<TestJob<S, K, R>, NoMemory> {
         Ok(TestJob {
             rt: self.rt,
@@ -171,10 +201,14 @@ impl<S: Source + Drop, K: Sink + Drop, R: Wait + Copy + Drop> Jobs<TestJob<S, K,
         })
     }
 
-    fn take_back(&mut self, _out: ()) {}
+    fn take_back(&mut self, out: Arc<Board, Global>) {
+        self.boards.push_reserved(out);
+    }
 
     fn close(&mut self) {
+        if let Some(board) = self.boards.last() {
+            board.closed.store(1, Ordering::SeqCst);
+        }
         self.closed = true;
-        self.board.closed.store(1, Ordering::SeqCst);
     }
 }

@@ -1,5 +1,5 @@
-//! Tests of `turnstile`, `spawners`, `doors`, `host_lock` and `serving` over their public calls, with threads and
-//! sockets of the system. There is nothing else here.
+//! Tests of `turnstile` and `serving` over their public calls, with threads and sockets of the system. There is nothing
+//! else here.
 #![tactic(auto)]
 
 #[cfg(test)]

@@ -2,9 +2,9 @@
 ghost use Rattle.std.specs.Prelude.{◌≡◌, IfSome};
 
 use http_front::{Sink, Source};
-use serving::{Doors, NetDoors};
+use serving::{DoorEvents, Doors, LinkTimes, NetDoors};
 use std::alloc::Global;
-use std::io::{Read, Write};
+use std::io::{ErrorKind, Read, Write};
 use std::net::{Ipv4Addr, Net, OpenListener, Shutdown, SocketAddr, TcpListener, TcpStream};
 use std::thread::{Threads, join};
 use std::time::Duration;
@@ -12,20 +12,33 @@ use std::time::Duration;
 /// How long the doors of the tests wait for a client, in milliseconds.
 const PATIENCE: u64 = 300;
 
+/// Nothing is told of the doors of the tests.
+#[derive(Drop)]
+struct Silent;
+
+impl DoorEvents for Silent {
+    fn opened(&mut self, _is_listening: bool) {}
+
+    fn failed(&mut self, _kind: ErrorKind) {}
+}
+
 /// Doors on a free port, and where they are.
-fn open<R: Net<Listener = TcpListener, Stream = TcpStream>>(
+fn open<R: Net<Listener = TcpListener, Stream = TcpStream> + Copy>(
     rt: &R,
-) -> Option<(NetDoors<TcpListener>, SocketAddr)>
+) -> Option<(NetDoors<R, Silent>, SocketAddr)>
     ensures { IfSome result (λ o. o.0.given ≡ 0) }
 {
     let listener = rt.bind(SocketAddr::from((Ipv4Addr::LOCALHOST, 0))).ok()?;
     let address = listener.local_addr().ok()?;
-    let doors = NetDoors::new(Some(listener), Duration::from_millis(PATIENCE));
-    Some((doors, address))
+    let times = LinkTimes {
+        idle: Duration::from_millis(PATIENCE),
+        patience: Duration::from_millis(PATIENCE),
+    };
+    Some((NetDoors::over(*rt, listener, times, Silent), address))
 }
 
 /// Accepts one link and writes back the first bytes that come. How many they were, and how many accepts failed.
-fn answer_once(mut doors: NetDoors<TcpListener>) -> (usize, u64)
+fn answer_once<R: Net + Drop>(mut doors: NetDoors<R, Silent>) -> (usize, u64)
     requires { doors.given ≡ 0 }
 {
     let count = match doors.accept() {
@@ -56,15 +69,17 @@ fn ask<R: Net<Listener = TcpListener, Stream = TcpStream>>(
     Some(got)
 }
 
-fn client_and_answer<R: Net<Listener = TcpListener, Stream = TcpStream> + Threads>(
-    rt: &R,
-) -> Option<((usize, u64), Option<[u8; 5]>)> {
+fn client_and_answer<
+    R: Net<Listener = TcpListener, Stream = TcpStream> + Threads + Copy + Drop + Send + Sync,
+>(rt: &R) -> Option<((usize, u64), Option<[u8; 5]>)> {
     let (doors, address) = open(rt)?;
     Some(join(rt, move || answer_once(doors), || ask(rt, address)))
 }
 
 /// A client that goes before it is accepted: the links given, the accepts failed, and whether the link gave no byte.
-fn gone<R: Net<Listener = TcpListener, Stream = TcpStream>>(rt: &R) -> Option<(u64, u64, bool)> {
+fn gone<R: Net<Listener = TcpListener, Stream = TcpStream> + Copy + Drop>(
+    rt: &R,
+) -> Option<(u64, u64, bool)> {
     let (mut doors, address) = open(rt)?;
     drop(rt.connect(address).ok()?);
     let none = match doors.accept() {
@@ -80,7 +95,7 @@ fn gives_none<S: Source + Drop>(mut source: S) -> bool {
 }
 
 /// A client that never reads: the accepts failed, and the writes.
-fn asleep<R: Net<Listener = TcpListener, Stream = TcpStream>>(
+fn asleep<R: Net<Listener = TcpListener, Stream = TcpStream> + Copy + Drop>(
     rt: &R,
     alloc: Global,
 ) -> Option<(u64, u64)> {
@@ -103,6 +118,23 @@ fn writes_failed<K: Sink + Drop>(alloc: Global, mut sink: K) -> Option<u64> {
         }
     }
     Some(sink.faults())
+}
+
+/// A client that never sends: its link gives no byte once it was idle for long enough.
+fn idle<R: Net<Listener = TcpListener, Stream = TcpStream> + Copy + Drop>(rt: &R) -> Option<bool> {
+    let (mut doors, address) = open(rt)?;
+    let client = rt.connect(address).ok()?;
+    let none = match doors.accept() {
+        Ok(Some(link)) => gives_none(link.source),
+        _ => false,
+    };
+    drop(client);
+    Some(none)
+}
+
+#[test]
+fn a_client_that_never_sends_is_let_go(rt: HostRuntime) {
+    assert!(rt; idle(&rt) == Some(true), "its read ends");
 }
 
 #[test]

@@ -119,7 +119,7 @@ fn woken<L: Ledger + Send + Sync, R: Threads + Wait + Clock + Sync>(
 }
 
 #[test]
-fn eight_passes_on_eight_threads(rt: HostRuntime) {
+fn eight_tickets_on_eight_threads(rt: HostRuntime) {
     let told = eight::<Brand, _>(&rt, rt.alloc(), Blank::new(8));
     let want = Turned {
         made: 321,

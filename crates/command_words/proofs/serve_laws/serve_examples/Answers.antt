@@ -8,12 +8,16 @@ worked : AreWorked
 unfolding options_of parsed_options serve_program clap_on_literals
 worked = record {
   plain = refl;
+  counted = refl;
   plain_setup = refl;
   all = refl;
   nothing = refl;
   no_port = refl;
-  no_connections = refl;
   port_0 = refl;
+  connections_0 = refl;
+  at_once_0 = refl;
+  at_once_4097 = refl;
+  idle_3601 = refl;
   workers_9 = refl;
   no_path = refl;
   twice = refl;

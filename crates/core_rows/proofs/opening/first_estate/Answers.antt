@@ -2,7 +2,7 @@ use Rattle.std.proofs.Common.{arith, refl, ◌∙◌, ap, sym, subst}
 use Rattle.row_machine.specs.machine.State.{empty_state}
 use Rattle.row_machine.specs.machine.Changes.{applied}
 use Rattle.row_machine.specs.facts.Whole.{IsWhole}
-use Rattle.row_machine.proofs.PreparedStart.{new-whole}
+use Rattle.row_machine.proofs.Beginning.{new-whole}
 use Rattle.row_machine.specs.machine.State.{State}
 use Rattle.core_drafts.specs.Background.{Backing}
 use Rattle.machine_laws.proofs.NamesApplied.{applied-operations}

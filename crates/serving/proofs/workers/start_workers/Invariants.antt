@@ -9,5 +9,7 @@ invariant-loop-i g l = record {
   all : vec_len l.tasks ≡ vec_len l.fn.tasks + l._i;
   later : g.P.Spawner.failures l.fn.spawner ≤ g.P.Spawner.failures l.spawner;
   slots : g.B.Jobs.slots l.fn.jobs ≤ g.B.Jobs.slots l.jobs + l._i;
+  used : g.B.Jobs.slots l.jobs + vec_len l.tasks ≤ g.B.Jobs.slots l.fn.jobs + vec_len l.fn.tasks;
+  room : g.B.Jobs.room l.fn.jobs ≤ g.B.Jobs.room l.jobs;
   ready : g.P.Spawner.ready l.spawner;
 }
