@@ -10,11 +10,11 @@ use std::time::{Duration, Instant};
 /// The name of the program.
 pub(crate) const PROGRAM: &str = "incusd";
 
-/// How long the doors rest after an accept that failed.
-const REST: Duration = Duration::from_millis(100);
+/// How many milliseconds the doors rest after an accept that failed.
+const REST: u64 = 100;
 
-/// How long nothing is told of failed accepts after a line that told of one.
-const QUIET: Duration = Duration::from_secs(60);
+/// How many seconds nothing is told of failed accepts after a line that told of one.
+const QUIET: u64 = 60;
 
 /// The line that says where the server listens, or that it doesn't.
 fn address_line(alloc: Global, port: u16, is_listening: bool) -> Result<String, NoMemory> {
@@ -46,7 +46,7 @@ impl DoorNotes {
     /// Whether a failed accept is to be told of at this moment.
     fn is_due(&self, now: Instant) -> bool {
         match self.told {
-            Some(told) => now.duration_since(told) >= QUIET,
+            Some(told) => now.duration_since(told) >= Duration::from_secs(QUIET),
             None => true,
         }
     }
@@ -68,7 +68,7 @@ impl DoorEvents for DoorNotes {
             }
             _ => {}
         }
-        thread::sleep(&self.rt, REST);
+        thread::sleep(&self.rt, Duration::from_millis(REST));
     }
 }
 

@@ -162,7 +162,7 @@ impl<
 
     fn take_back(&mut self, out: JobEnd<R, L, T>) {
         let gate = match out {
-            JobEnd::Link(_, gate) => gate,
+            JobEnd::Link(_end, gate) => gate,
             JobEnd::Declined(gate) => gate,
             JobEnd::Worker(gate) => gate,
         };

@@ -3,45 +3,62 @@ use crate::words::owned;
 use command_words::{ServeWords, read_serve_words, serve_setup_of};
 use std::alloc::Global;
 
-/// What a list of words says: the port, the number of connections, of workers and of passes, and the file.
+/// What a list of words says: the port, how many connections there are, how many at once, how many workers, after how many
+/// idle seconds a connection is closed, and the file.
 #[derive(Clone, Copy)]
-struct Serves(u32, u32, u32, u32, &'static str);
+struct Serves(u32, Option<u32>, u32, u32, u32, &'static str);
 
 /// Lists of words, and what they say.
 const SAID: &[(&str, Serves)] = &[
-    ("|--port|8443|--connections|4", Serves(8443, 4, 2, 7, "")),
-    ("|--port=8443|--connections=4", Serves(8443, 4, 2, 7, "")),
-    ("|--connections=4|--port|8443", Serves(8443, 4, 2, 7, "")),
+    ("|--port=8443", Serves(8443, None, 512, 2, 60, "")),
+    (
+        "|--port|8443|--connections|4",
+        Serves(8443, Some(4), 512, 2, 60, ""),
+    ),
+    (
+        "|--port=8443|--connections=4",
+        Serves(8443, Some(4), 512, 2, 60, ""),
+    ),
+    (
+        "|--connections=4|--port|8443",
+        Serves(8443, Some(4), 512, 2, 60, ""),
+    ),
     (
         "|--workers|1|--connections=4|--port=8443",
-        Serves(8443, 4, 1, 6, ""),
+        Serves(8443, Some(4), 512, 1, 60, ""),
     ),
     (
         "|--port=65535|--connections=1000000|--workers=8",
-        Serves(65_535, 1_000_000, 8, 1_000_009, ""),
+        Serves(65_535, Some(1_000_000), 512, 8, 60, ""),
     ),
     (
         "|--port=1|--connections=1|--db|rows",
-        Serves(1, 1, 2, 4, "rows"),
+        Serves(1, Some(1), 512, 2, 60, "rows"),
     ),
     (
         "|--db=-x|--port=8443|--connections=4",
-        Serves(8443, 4, 2, 7, "-x"),
+        Serves(8443, Some(4), 512, 2, 60, "-x"),
     ),
     (
         "|--db|rows|--workers|3|--connections|4|--port|8443",
-        Serves(8443, 4, 3, 8, "rows"),
+        Serves(8443, Some(4), 512, 3, 60, "rows"),
     ),
     (
         "|--workers=3|--port=8443|--db=rows|--connections=4",
-        Serves(8443, 4, 3, 8, "rows"),
+        Serves(8443, Some(4), 512, 3, 60, "rows"),
     ),
+    ("|--port=1|--at-once=1", Serves(1, None, 1, 2, 60, "")),
+    (
+        "|--port=1|--at-once|4096",
+        Serves(1, None, 4_096, 2, 60, ""),
+    ),
+    ("|--idle=1|--port=1", Serves(1, None, 512, 2, 1, "")),
+    ("|--port=1|--idle|3600", Serves(1, None, 512, 2, 3_600, "")),
 ];
 
 /// Lists of words that are not read.
 const NOT_READ: &[&str] = &[
     "",
-    "|--port=8443",
     "|--connections=4",
     "|--port=0|--connections=4",
     "|--port|0|--connections|4",
@@ -73,6 +90,15 @@ const NOT_READ: &[&str] = &[
     "|--port=8443|--connections=4|--workers=02",
     "|--port=8443|--connections=4|--workers=+2",
     "|--port=8443|--connections=4|--workers=-2",
+    "|--port=8443|--at-once=0",
+    "|--port=8443|--at-once=4097",
+    "|--port=8443|--at-once=",
+    "|--port=8443|--at-once",
+    "|--port=8443|--at-once=1|--at-once=1",
+    "|--port=8443|--idle=0",
+    "|--port=8443|--idle=3601",
+    "|--port=8443|--idle=60s",
+    "|--port=8443|--idle=1|--idle=1",
     "|--port|-1|--connections=4",
     "|--port=8443|--connections=4|--now=5",
     "|--port=8443|--connections=4|serve",
@@ -96,11 +122,14 @@ fn are_read(alloc: Global, words: &[String], says: Option<ServeWords>) -> bool {
 }
 
 /// Whether words say this of the outside.
-fn are_set(alloc: Global, words: &[String], port: u32, db: &str, passes: u32) -> bool {
+fn are_set(alloc: Global, words: &[String], port: u32, db: &str, idle: u32, tickets: u32) -> bool {
     let Ok(setup) = serve_setup_of(alloc, words) else {
         return false;
     };
-    let are = (setup.port == port) & (setup.db.view() == db) & (setup.passes == passes);
+    let are = (setup.port == port)
+        & (setup.db.view() == db)
+        & (setup.idle == idle)
+        & (setup.tickets == tickets);
     drop(setup);
     are
 }
@@ -112,23 +141,27 @@ fn say(
     says: Option<ServeWords>,
     port: u32,
     db: &str,
-    passes: u32,
+    idle: u32,
+    tickets: u32,
 ) -> bool {
     let Ok(words) = owned(alloc, words) else {
         return false;
     };
-    let say = are_read(alloc, &words, says) & are_set(alloc, &words, port, db, passes);
+    let say = are_read(alloc, &words, says) & are_set(alloc, &words, port, db, idle, tickets);
     drop(words);
     say
 }
 
 fn are_said(alloc: Global, words: &str, says: Serves) -> bool {
-    let Serves(port, connections, workers, passes, db) = says;
+    let Serves(port, connections, at_once, workers, idle, db) = says;
     let numbers = ServeWords {
         connections,
+        at_once,
         workers,
     };
-    say(alloc, words, Some(numbers), port, db, passes)
+    // One ticket for each connection at once and each worker, and one to close; these numbers are small.
+    let tickets = at_once.saturating_add(workers).saturating_add(1);
+    say(alloc, words, Some(numbers), port, db, idle, tickets)
 }
 
 #[test]
@@ -137,6 +170,6 @@ fn words_say_how_to_serve(rt: HostRuntime) {
         assert!(rt; are_said(rt.alloc(), words, *says), "{words}");
     }
     for words in NOT_READ {
-        assert!(rt; say(rt.alloc(), words, None, 0, "", 0), "{words}");
+        assert!(rt; say(rt.alloc(), words, None, 0, "", 0, 0), "{words}");
     }
 }

@@ -6,7 +6,6 @@ use record_keeper::{Keeper, MapKeeper};
 use records::{Command, LimitKeyName, Refusal, Reply, UsageLine, View, What};
 use rest_routes::Router;
 use row_machine::{Answer, Event};
-use row_readings;
 use serve_loop::Daemon;
 use size_values::{Or, Seq, Text};
 use std::alloc::Global;
@@ -157,7 +156,7 @@ impl<R: Keeper + Drop> ServerOver<R> {
     }
 
     /// What the server shows.
-    pub(crate) fn view(&self) -> from_row_readings::View<'_> {
+    pub(crate) fn view(&self) -> row_readings::View<'_> {
         self.daemon.view()
     }
 

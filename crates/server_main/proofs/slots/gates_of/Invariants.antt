@@ -9,4 +9,4 @@ invariant-loop-ticket g l = record {
 }
 
 abbrev pub decreases-loop-ticket : goal.decreases-loop-ticket
-decreases-loop-ticket g l = goal.left-loop-ticket g l
+decreases-loop-ticket g l = vec_len l.tickets
