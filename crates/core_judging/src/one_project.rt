@@ -342,6 +342,7 @@ fn limits_broken(
 }
 
 /// L0 to L8 of the project, if it is there.
+#[tactic(auto, unfolding(crate::specs::Judged::project_uncounts, crate::specs::Judged::project_exceeds))]
 fn limits_judged(alloc: Global, of: &OneProject, after: &View<'_>) -> Result<(), Or<Refusal>>
     requires { of.now.limits ≡ limits_named after.now.projects of.now.name }
     ensures { Says result (first (project_uncounts of.now.name after.now ∷ project_exceeds of.now.name of.now.used after.now

@@ -1,5 +1,5 @@
 -- The tables, computed: every definition that is otherwise one word is unfolded here.
-use Rattle.std.proofs.Common.{◌≡◌, refl}
+use Rattle.std.proofs.Common.{refl}
 use Rattle.std.specs.Fmt.{digits}
 use Rattle.std.specs.Str.{is_utf8, chars}
 use lib.Utf8.{encode}
@@ -13,6 +13,7 @@ use Rattle.row_codec.specs.Sizes.{capped}
 use Rattle.row_codec.specs.Reading.{count_at, number_at, moment_at, code_at, text_at, items_at, list_at, filled_at, next_at, next_filled_at, setting_at, device_at, shape_at, project_in, profile_in, network_in, pool_in, volume_in, instance_in, snapshot_in, two_names_in, three_names_in, read_project, read_profile, read_network, read_pool, read_volume, read_instance, read_snapshot, row_at}
 use Rattle.row_codec.specs.Spelling.{text_bytes, number_bytes, list_bytes}
 use Rattle.estate_rules.specs.Names.{is_instance_name, is_project_name, is_object_name}
+use Rattle.tests_rows.specs.Host.{HostHolds}
 use Rattle.tests_rows.specs.Policies.{PoliciesHold}
 use Rattle.tests_rows.specs.Spellings.{SpellingsHold}
 use Rattle.tests_rows.specs.States.{StatesHold}
@@ -20,6 +21,10 @@ use Rattle.tests_rows.specs.States.{StatesHold}
 pub states_hold : StatesHold
 unfolding digits
 states_hold = record { calls = refl; undone_by = refl; lead_to = refl; allowed = refl; follow = refl }
+
+pub host_holds : HostHolds
+unfolding value_of
+host_holds = record { effects = refl; renamed = refl; cleared = refl }
 
 pub policies_hold : PoliciesHold
 unfolding

@@ -1,3 +1,4 @@
+pub mod Host
 pub mod Policies
 pub mod Spellings
 pub mod States

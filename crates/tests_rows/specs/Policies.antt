@@ -1,6 +1,6 @@
 -- What restricted projects forbid.
 use Prim.Native.String.{String}
-use Rattle.std.specs.Prelude.{◌≡◌, ℕ, ◌==◌, Bool, true, false, List, [], ◌∷◌, map, length, Option, Some, None, codes}
+use Rattle.std.specs.Prelude.{ℕ, ◌==◌, Bool, true, false, List, [], ◌∷◌, map, length, Option, Some, None, codes}
 use Rattle.std.specs.Prelude.{if◌then◌else◌}
 use Rattle.restrictions.specs.Forbids.{first_forbidden, snapshots_forbidden}
 use Rattle.restrictions.specs.Policies.{policy_of}
@@ -9,7 +9,6 @@ use Rattle.config_lists.specs.Devices.{NamedDevices}
 use Rattle.config_lists.specs.Entries.{put, without}
 use Rattle.config_lists.specs.Settings.{Settings}
 use Rattle.restrictions.specs.declared.forbidden.Forbidden.{Forbidden}
-use Rattle.restrictions.specs.declared.rows.Subject.{Subject}
 use Rattle.restrictions.specs.declared.rows.Subject.TheVariants as subject
 use Rattle.restrictions.specs.declared.rows.Word.{Word}
 use Rattle.restrictions.specs.declared.rows.Word.TheVariants as word_of
@@ -242,6 +241,9 @@ beside device = (codes "a", entry "type" "none" ∷ []) ∷ (codes "b", settings
 
 -- ---- the lowest rule and its first place
 
+abbrev pub restricted : Settings
+restricted = entry "restricted" "1" ∷ []
+
 abbrev pub isolated : Settings
 isolated = entry "restricted" "1" ∷ entry "restricted.containers.privilege" "isolated" ∷ []
 
@@ -254,8 +256,8 @@ unrestricted = entry "restricted" "0" ∷ entry "restricted.networks.access" "br
 -- a project and the settings of a container, and what is forbidden first
 abbrev pub lowest : List (Settings × Settings × Option Forbidden)
 lowest =
-    (entry "restricted" "1" ∷ [], entry "raw.lxc" "x" ∷ entry "security.nesting" "1" ∷ entry "security.privileged" "1" ∷ [], forbidden 1 1)
-    ∷ (entry "restricted" "1" ∷ [], entry "raw.lxc" "x" ∷ entry "raw.seccomp" "x" ∷ [], forbidden 3 0)
+    (restricted, entry "raw.lxc" "x" ∷ entry "security.nesting" "1" ∷ entry "security.privileged" "1" ∷ [], forbidden 1 1)
+    ∷ (restricted, entry "raw.lxc" "x" ∷ entry "raw.seccomp" "x" ∷ [], forbidden 3 0)
     ∷ (isolated, entry "raw.lxc" "x" ∷ entry "user.a" "x" ∷ [], forbidden 2 2)
     ∷ (isolated, entry "raw.lxc" "x" ∷ entry "security.privileged" "1" ∷ [], forbidden 2 1)
     ∷ (isolated, entry "security.idmap.isolated" "0" ∷ entry "security.privileged" "1" ∷ [], forbidden 2 0)

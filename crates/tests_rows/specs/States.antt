@@ -1,6 +1,6 @@
 -- The calls of deeds, what actions lead to from each status, and the names of snapshots.
 use Prim.Native.String.{String}
-use Rattle.std.specs.Prelude.{◌≡◌, ℕ, Bool, true, false, List, [], ◌∷◌, Option, Some, None, fold, codes}
+use Rattle.std.specs.Prelude.{ℕ, Bool, true, false, List, [], ◌∷◌, Option, Some, None, fold, codes}
 use Rattle.std.specs.Result.{result_ok}
 use Rattle.instance_states.specs.Numbers.{Numbering, unseen, seen, next_name}
 use Rattle.instance_states.specs.Plans.{calls_of, undo_of}

@@ -1,5 +1,5 @@
 -- The tables, computed: every definition that is otherwise one word is unfolded here.
-use Rattle.std.proofs.Common.{◌≡◌, refl}
+use Rattle.std.proofs.Common.{refl}
 use Rattle.estate_rules.specs.Names.{is_instance_name, is_project_name, is_object_name}
 use Rattle.estate_rules.specs.Uses.{names_network, names_pool, names_volume}
 use Rattle.expansion.specs.Layers.{laid, expanded}
@@ -80,6 +80,9 @@ layers_hold = record {
   changes_settle = refl;
   devices_are_replaced_whole = refl;
   devices_are_removed = refl;
+  removed_device_is_there = refl;
+  removed_device_is_gone = refl;
+  other_device_stays = refl;
   one_disk_is_the_root = refl;
   others_are_no_roots = refl;
   a_disk_is_a_root = refl;

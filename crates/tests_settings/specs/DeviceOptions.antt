@@ -1,6 +1,6 @@
 -- Which key takes which value, of devices of each type, and the faults of devices.
 use Prim.Native.String.{String}
-use Rattle.std.specs.Prelude.{◌≡◌, ℕ, zero, ◌==◌, not, List, [], ◌∷◌, ◌++◌, map, length, filter, Option, Some, None, codes}
+use Rattle.std.specs.Prelude.{ℕ, zero, ◌==◌, not, List, [], ◌∷◌, map, length, filter, Option, Some, None, codes}
 use Rattle.std.specs.Option.{option_map}
 use Rattle.config_lists.specs.Devices.{NamedDevices}
 use Rattle.config_lists.specs.Entries.{put}

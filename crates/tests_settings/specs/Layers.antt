@@ -1,11 +1,10 @@
 -- Settings, devices and changes of them, and what layers give together.
-use Rattle.std.specs.Prelude.{◌≡◌, ℕ, Bool, true, false, List, [], ◌∷◌, ◌++◌, map, Option, Some, None, is_some, codes}
-use Rattle.std.specs.Option.{option_map}
+use Rattle.std.specs.Prelude.{◌≡◌, ℕ, Bool, true, false, List, [], ◌∷◌, map, Option, Some, None, is_some, codes}
 use Rattle.expansion.specs.Layers.{expanded}
 use Rattle.expansion.specs.declared.expanded.Expanded.{Expanded}
 use Rattle.config_lists.specs.Changes.{settled, patched}
-use Rattle.config_lists.specs.Devices.{NamedDevices, is_root_disk, root_of}
-use Rattle.config_lists.specs.Entries.{put, replaced, without}
+use Rattle.config_lists.specs.Devices.{NamedDevices, device, is_root_disk, root_of}
+use Rattle.config_lists.specs.Entries.{replaced, without}
 use Rattle.config_lists.specs.Settings.{Settings, setting, has_setting}
 use Rattle.config_lists.specs.declared.root.Root.{Root}
 use Rattle.config_lists.specs.declared.root.Root.TheVariants as root
@@ -157,6 +156,11 @@ pub record LayersHold : Type 0 where
   pub devices_are_replaced_whole : replaced (devices two_devices) (devices others) ≡ replaced_devices
   pub devices_are_removed : without replaced_devices (codes "gpu")
       ≡ (codes "eth0", entry "type" "nic" ∷ []) ∷ (codes "root", entry "pool" "p0" ∷ entry "type" "disk" ∷ []) ∷ []
+  pub removed_device_is_there : is_some (device replaced_devices (codes "gpu")) ≡ true
+  pub removed_device_is_gone : device (without replaced_devices (codes "gpu")) (codes "gpu") ≡ None
+  pub other_device_stays :
+      device (without replaced_devices (codes "gpu")) (codes "root")
+      ≡ Some (entry "pool" "p0" ∷ entry "type" "disk" ∷ [])
   pub one_disk_is_the_root : Agree roots_with (λ other. root.None ∷ root.None ∷ root.One 1 ∷ root.Several ∷ []) no_roots
   pub others_are_no_roots : Agree is_root_disk (λ other. false) no_roots
   pub a_disk_is_a_root : is_root_disk root_disk ≡ true

@@ -1,6 +1,6 @@
 -- The limits of projects, what instances and volumes count for, and what is admitted under limits.
 use Prim.Native.String.{String}
-use Rattle.std.specs.Prelude.{◌≡◌, ℕ, ◌-◌, ◌^◌, ◌==◌, Bool, true, false, not, List, [], ◌∷◌, ◌++◌, map, length, filter}
+use Rattle.std.specs.Prelude.{ℕ, ◌-◌, ◌^◌, ◌==◌, Bool, true, false, not, List, [], ◌∷◌, map, length, filter}
 use Rattle.std.specs.Prelude.{if◌then◌else◌, Option, Some, None, codes}
 use Rattle.config_lists.specs.Devices.{NamedDevices}
 use Rattle.config_lists.specs.Settings.{Settings}

@@ -1,6 +1,6 @@
 -- The names that objects may have, and the objects that devices name.
 use Prim.Native.String.{String}
-use Rattle.std.specs.Prelude.{◌≡◌, ℕ, Bool, true, false, List, [], ◌∷◌, ◌++◌, map, codes}
+use Rattle.std.specs.Prelude.{ℕ, Bool, true, false, List, [], ◌∷◌, codes}
 use Rattle.estate_rules.specs.Names.{good_name_of}
 use Rattle.estate_rules.specs.Uses.{names_network, names_pool, names_volume}
 use Rattle.config_lists.specs.Devices.{NamedDevices}

@@ -1,5 +1,5 @@
 -- The tables, computed: every definition that is otherwise one word is unfolded here.
-use Rattle.std.proofs.Common.{◌≡◌, refl}
+use Rattle.std.proofs.Common.{refl}
 use Rattle.std.specs.Fmt.{digits}
 use Rattle.size_values.specs.Address.{address_of, cidr_of}
 use Rattle.size_values.specs.Amounts.{plus_of, minus_of, excess_of, fits_in}
@@ -43,12 +43,12 @@ values_hold = record {
     two_are_within = refl;
   };
   of_texts = record { ordered = refl; same = refl; empty = refl };
-  of_calls = record { second_fails = refl; two_of_six_fail = refl };
+  of_calls = record { first_fails = refl; second_fails = refl; two_of_six_fail = refl };
 }
 
 pub entries_hold : EntriesHold
 unfolding put_entry remove_entry
-entries_hold = record { kept = refl; begun = refl }
+entries_hold = record { kept = refl; kept_one_by_one = refl; begun = refl }
 
 pub summaries_hold : SummariesHold
 unfolding digits summary_by

@@ -1,6 +1,6 @@
 -- What a keeper keeps after changes.
 use Prim.Native.String.{String}
-use Rattle.std.specs.Prelude.{◌≡◌, ℕ, List, [], ◌∷◌, codes}
+use Rattle.std.specs.Prelude.{◌≡◌, ℕ, List, [], ◌∷◌, fold, codes}
 use Rattle.record_keeper.specs.Entries.{after_changes, entries_put}
 use Rattle.size_values.specs.declared.entry.Entry.{Entry}
 use Rattle.size_values.specs.declared.entry.EntryChange.{EntryChange}
@@ -45,4 +45,6 @@ given = entry 2 "x" 1 ∷ entry 1 "y" 2 ∷ entry 2 "x" 3 ∷ []
 -- every case
 pub record EntriesHold : Type 0 where
   pub kept : Agree (λ row. after_changes row.1 row.0) (λ row. row.2) cases
+  pub kept_one_by_one :
+      Agree (λ row. fold (λ before made. after_changes (made ∷ []) before) row.0 row.1) (λ row. row.2) cases
   pub begun : entries_put given [] ≡ entry 1 "y" 2 ∷ entry 2 "x" 3 ∷ []

@@ -1,6 +1,6 @@
 -- What the readers of option values give for texts, one table for each reader.
 use Prim.Native.String.{String}
-use Rattle.std.specs.Prelude.{◌≡◌, ℕ, ◌-◌, ◌^◌, Bool, true, false, List, [], ◌∷◌, Result, Ok, Err, codes}
+use Rattle.std.specs.Prelude.{ℕ, ◌-◌, ◌^◌, Bool, true, false, List, [], ◌∷◌, Result, Ok, Err, codes}
 use Rattle.size_values.specs.Address.{address_of, cidr_of}
 use Rattle.size_values.specs.Boolean.{boolean_of}
 use Rattle.size_values.specs.Count.{count_of}

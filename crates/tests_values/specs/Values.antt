@@ -81,6 +81,7 @@ failing zero calls = []
 failing (suc more) calls = (is_next_failing calls, (after_call calls).failed) ∷ failing more (after_call calls)
 
 pub record CallsHold : Type 0 where
+  pub first_fails : failing 2 (no_calls (1 ∷ [])) ≡ (true, 1) ∷ (false, 1) ∷ []
   pub second_fails : failing 3 (no_calls (2 ∷ [])) ≡ (false, 0) ∷ (true, 1) ∷ (false, 1) ∷ []
   pub two_of_six_fail :
       failing 6 (no_calls (2 ∷ 4 ∷ 4 ∷ []))

@@ -1,0 +1,11 @@
+//! The file of a journal as a disk: a header that names it, and behind the header the bytes of the disk. One program has
+//! it at a time, and a file that is no journal is not written to.
+#![tactic(auto)]
+
+mod disk;
+mod opening;
+mod refusal;
+
+pub use disk::FileDisk;
+pub use opening::open_journal;
+pub use refusal::FileRefused;

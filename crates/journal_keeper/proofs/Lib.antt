@@ -1,0 +1,12 @@
+pub mod Utf8
+pub mod Items
+pub mod Written
+pub mod Again
+pub mod ReadChain
+pub mod Torn
+pub mod Moments
+pub mod Prefix
+pub mod Standing
+pub mod Told
+pub mod Begun
+pub mod Counts

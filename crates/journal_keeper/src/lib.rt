@@ -1,0 +1,16 @@
+//! A keeper of entries in a journal: each commit is a record behind the one before it, and counts from the moment at
+//! which its gate is opened. After a crash at any moment the file has the commits that were answered Ok, and at most one
+//! more.
+#![tactic(auto)]
+
+mod commits;
+mod device;
+mod gate;
+mod keeper;
+mod loading;
+mod records;
+mod taking;
+mod texts;
+
+pub use gate::Gate;
+pub use keeper::JournalKeeper;
