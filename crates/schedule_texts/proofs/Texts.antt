@@ -1,0 +1,66 @@
+-- Texts that are cut, and numbers in them.
+use Rattle.std.proofs.Common.{◌≡◌, ◌≢◌, ℕ, zero, suc, ◌+◌, ◌-◌, ◌*◌, ◌^◌, ◌<◌, ◌≤◌, min, Bool, true, false, not, ◌==◌, ◌&&◌, ◌||◌, if◌then◌else◌, nat_lt, nat_le, List, [], ◌∷◌, ◌++◌, length, take, get_or, Option, Some, None, Bor, unwrap_or, MatchOption, IfSome, IfNone, refl, sym, ap, ◌∙◌, arith, rules}
+use Rattle.std.specs.List.{slice_split, before_first, after_first, position_or_len, list_all, list_any}
+use Rattle.std.specs.Char.{is_ascii_digit, digit_value}
+use Rattle.std.specs.Str.Parse.{digits_value}
+use Rattle.std.proofs.lemmas.Bool.Decides.{nat_tests}
+use Rattle.std.proofs.lemmas.Int.Digits.{digits_value_more}
+use Rattle.std.proofs.lemmas.List.Splits.{slice_split_first, slice_split_none}
+use Rattle.std.proofs.lemmas.List.Sums.{fails_before_first}
+use Rattle.std.proofs.lemmas.Grind.{common_steps}
+use Rattle.size_values.specs.Reading.{is_outside}
+use Rattle.schedule_texts.specs.Parts.{number_of}
+use Rattle.schedule_texts.specs.Fields.{is_space}
+use Rattle.schedule_texts.specs.Aliases.{without_space}
+
+-- ---- a space at the front
+
+space_kept : (sign : ℕ) (signs : List ℕ) (b : Bool) → is_space sign ≡ b → ((rest : List ℕ) → sign ∷ signs ≢ 32 ∷ rest)
+    → sign ∷ signs ≡ (if b then signs else sign ∷ signs)
+space_kept sign signs true e never = absurd (never signs (let same : sign ≡ 32 = grind (arith, nat_tests) in ap (λ s. s ∷ signs) same))
+space_kept sign signs false e never = refl
+
+kept : (text : List ℕ) → ((rest : List ℕ) → text ≢ 32 ∷ rest) → text ≡ without_space text
+kept [] never = refl
+kept (sign ∷ signs) never = space_kept sign signs (is_space sign) refl never
+
+pub front_space_gone : (text : List ℕ) (whole : Bor (List ℕ)) (cut : Option (Bor (List ℕ))) → whole.now ≡ text
+    → MatchOption cut ((rest : List ℕ) → text ≢ 32 ∷ rest) (λ x. text ≡ 32 ∷ x.now) → (unwrap_or cut whole).now ≡ without_space text
+front_space_gone text whole None same never = same ∙ kept text never
+front_space_gone text whole (Some x) same cut = sym (ap without_space cut)
+
+-- ---- digits
+
+digit_value-digit : (c : ℕ) → is_ascii_digit c ≡ true → digit_value c ≡ c - 48
+digit_value-digit c h = grind (arith, nat_tests)
+
+stops-step : (v n d last : ℕ) → v ≡ min n last → min (min (v * 10) last + d) last ≡ min (n * 10 + d) last
+stops-step v n d last h = omega arith
+
+-- the number after one more digit
+pub number-next : (text : List ℕ) (i v : ℕ) → i < length text → is_ascii_digit (get_or text i 0) ≡ true
+    → v ≡ min (digits_value 10 (take i text)) 255
+    → min (min (v * 10) 255 + (get_or text i 0 - 48)) 255 ≡ min (digits_value 10 (take (i + 1) text)) 255
+number-next text i v less digit h =
+    stops-step v (digits_value 10 (take i text)) (get_or text i 0 - 48) 255 h
+    ∙ ap (λ n. min n 255) (sym (digits_value_more 10 text i less ∙ ap (λ d. digits_value 10 (take i text) * 10 + d) (digit_value-digit (get_or text i 0) digit)))
+
+-- ---- cuts at a space
+
+-- the two texts round the first space, or none
+abbrev pub CutsAtSpace : List ℕ → Option (Bor (List ℕ) × Bor (List ℕ)) → Type 0
+CutsAtSpace text cut = MatchOption cut (position_or_len is_space text ≡ length text)
+    (λ x. (x.0.now ≡ before_first is_space text) × (x.1.now ≡ after_first is_space text) × (position_or_len is_space text < length text))
+
+pub cut_some : (text : List ℕ) (cut : Option (Bor (List ℕ) × Bor (List ℕ))) → CutsAtSpace text cut
+    → IfSome cut (λ x. slice_split is_space text ≡ x.0.now ∷ slice_split is_space x.1.now)
+cut_some text None h = tt
+cut_some text (Some x) h = rw (h.0, h.1) (slice_split_first is_space text 0 h.2)
+
+pub cut_none : (text : List ℕ) (cut : Option (Bor (List ℕ) × Bor (List ℕ))) → CutsAtSpace text cut
+    → IfNone cut (slice_split is_space text ≡ text ∷ [])
+cut_none text None h = slice_split_none is_space text (λ k d l. fails_before_first is_space text k d (omega (arith, h, l)))
+cut_none text (Some x) h = tt
+
+pub both_true : {a b : Bool} → a ≡ true → b ≡ true → a && b ≡ true
+both_true {a} {b} h k = ap (λ x. x && b) h ∙ k

@@ -1,0 +1,5 @@
+pub mod Numbers
+pub mod Parts
+pub mod Fields
+pub mod Aliases
+pub mod Schedules

@@ -1,0 +1,16 @@
+//! The texts of `snapshots.schedule`: their reader, and what they mean. Dates stand here in plain
+//! arithmetic alone, so that rules can speak of schedules without a calendar.
+#![tactic(auto)]
+
+mod aliases;
+mod fields;
+mod minute;
+mod numbers;
+mod part;
+mod schedule;
+
+pub use aliases::AliasSet;
+pub use fields::FieldSets;
+pub use minute::CivilMinute;
+pub use numbers::NumberSet;
+pub use schedule::{Schedule, read_schedule};
