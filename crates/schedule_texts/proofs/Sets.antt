@@ -1,11 +1,14 @@
 -- Sets of numbers as bits.
-use Rattle.std.proofs.Common.{◌≡◌, ◌≢◌, ℕ, zero, suc, ◌+◌, ◌-◌, ◌*◌, ◌^◌, ◌<◌, ◌≤◌, ◌%◌, max, Bool, true, false, not, ◌==◌, ◌&&◌, ◌||◌, if◌then◌else◌, nat_lt, nat_le, refl, sym, ap, ◌∙◌, arith, rules, bit_or}
+use Rattle.std.proofs.Common.{◌≡◌, ◌≢◌, ℕ, zero, suc, ◌+◌, ◌-◌, ◌*◌, ◌^◌, ◌<◌, ◌≤◌, ◌%◌, max, Bool, true, false, not, ◌==◌, ◌&&◌, ◌||◌, if◌then◌else◌, nat_lt, nat_le, refl, sym, ap, ◌∙◌, arith, rules, bit_or, lit<, ◌⊎◌, inl, inr}
 use Rattle.std.specs.Int.{bit_at}
+use Rattle.std.proofs.lemmas.Bool.{cases_lt}
 use Rattle.std.proofs.lemmas.Bool.Decides.{nat_tests}
 use Rattle.std.proofs.lemmas.Nat.Bits.{bit_at_or, bit_at-pow_same, bit_at-pow_other, bit_at-lt, same_from_bits, bit_at-zero, bit_at_cat_low, bit_at_cat_high, bit_at_above}
 use Rattle.std.proofs.lemmas.Nat.{one_shl}
+use native.Mathlib.Nat.{pow-suc}
 use Rattle.std.proofs.lemmas.Grind.{common_steps}
 use Rattle.schedule_texts.specs.Numbers.{has, bit_of, bits_below, set_of}
+use Rattle.schedule_texts.specs.declared.numbers.NumberSet.{NumberSet}
 use Rattle.schedule_texts.specs.Parts.{part_has}
 use Rattle.schedule_texts.specs.declared.part.Part.{Part}
 
@@ -68,6 +71,59 @@ one_on part number n a b h =
     ∙ or_apart a (nat_lt n number && part_has n part) (n == number && part_has n part)
     ∙ ap (λ x. a || x) (below_next number n (part_has n part))
 
--- all numbers of the part lie below the one after its highest
-pub all_below : (part : Part) (number n : ℕ) → part.high ≤ number → (nat_lt n (number + 1) && part_has n part) ≡ part_has n part
-all_below part number n h = ?
+-- ---- a set by its test
+
+bit_below : (b : Bool) (p n : ℕ) → n < p → bit_of b * p + n < p + p
+bit_below true p n h = omega (arith, h)
+bit_below false p n h = omega (arith, h)
+
+below_bits : (test : ℕ → Bool) (m : ℕ) → bits_below m test < 2 ^ m
+unfolding bits_below
+below_bits test zero = lit< tt
+below_bits test (suc m) = omega (arith, bit_below (test m) (2 ^ m) (bits_below m test) (below_bits test m), pow-suc 2 m)
+
+bit_of_bit : (b : Bool) → bit_at (bit_of b) 0 ≡ bit_of b
+bit_of_bit true = refl
+bit_of_bit false = refl
+
+-- the bit at a place: below the last, at it, and after it
+place : (test : ℕ → Bool) (m n : ℕ) → (n < m → bit_at (bits_below m test) n ≡ bit_of (test n)) → (m ≤ n → bit_at (bits_below m test) n ≡ 0)
+    → (n < suc m → bit_at (bits_below (suc m) test) n ≡ bit_of (test n)) × (suc m ≤ n → bit_at (bits_below (suc m) test) n ≡ 0)
+unfolding bits_below
+place test m n low high = (
+    (λ l. below_or_at (cases_lt n m) l),
+    λ l.
+    let far : 1 ≤ n - m = omega (arith, l) in
+    bit_at_cat_high (bit_of (test m)) m (bits_below m test) n (below_bits test m) (omega (arith, l))
+    ∙ bit_at_above (bit_of (test m)) 1 (n - m) (one_bit (test m)) far,
+)
+  where
+    one_bit : (b : Bool) → bit_of b < 2 ^ 1
+    one_bit true = lit< tt
+    one_bit false = lit< tt
+
+    at_it : n ≡ m → bit_at (bit_of (test m) * 2 ^ m + bits_below m test) n ≡ bit_of (test n)
+    at_it e =
+        let none : n - m ≡ 0 = omega (arith, e) in
+        bit_at_cat_high (bit_of (test m)) m (bits_below m test) n (below_bits test m) (omega (arith, e))
+        ∙ ap (bit_at (bit_of (test m))) none ∙ bit_of_bit (test m) ∙ ap (λ k. bit_of (test k)) (sym e)
+
+    below_or_at : (n < m) ⊎ (m ≤ n) → n < suc m → bit_at (bit_of (test m) * 2 ^ m + bits_below m test) n ≡ bit_of (test n)
+    below_or_at (inl l) h = bit_at_cat_low (bit_of (test m)) m (bits_below m test) n l ∙ low l
+    below_or_at (inr l) h = at_it (omega (arith, l, h))
+
+bit_at-below : (test : ℕ → Bool) (m n : ℕ) → (n < m → bit_at (bits_below m test) n ≡ bit_of (test n)) × (m ≤ n → bit_at (bits_below m test) n ≡ 0)
+bit_at-below test zero n = ((λ h. absurd (omega arith)), λ h. bit_at_above (bits_below zero test) zero n (below_bits test zero) h)
+bit_at-below test (suc m) n = place test m n (bit_at-below test m n).0 (bit_at-below test m n).1
+
+-- the set that has just the numbers below 60 that pass the test
+pub set_is : (set : NumberSet) (test : ℕ → Bool) → ((n : ℕ) → has set n ≡ test n) → ((n : ℕ) → 60 ≤ n → has set n ≡ false) → set ≡ set_of test
+set_is set test each few = ap (λ (b : ℕ). let made : NumberSet = record { bits = b } in made) (same_from_bits set.bits (bits_below 60 test) (λ i. same i (cases_lt i 60)))
+  where
+    bit_by : (x : ℕ) (b : Bool) → x < 2 → (x == 1) ≡ b → x ≡ bit_of b
+    bit_by x true h e = grind (arith, nat_tests)
+    bit_by x false h e = grind (arith, nat_tests)
+
+    same : (i : ℕ) → (i < 60) ⊎ (60 ≤ i) → bit_at set.bits i ≡ bit_at (bits_below 60 test) i
+    same i (inl l) = bit_by (bit_at set.bits i) (test i) (bit_at-lt set.bits i) (each i) ∙ sym ((bit_at-below test 60 i).0 l)
+    same i (inr l) = bit_by (bit_at set.bits i) false (bit_at-lt set.bits i) (few i l) ∙ sym ((bit_at-below test 60 i).1 l)

@@ -1,8 +1,8 @@
 -- Aliases: words that stand for five fields.
 use Rattle.std.specs.Prelude.{ℕ, Bool, not, ◌==◌, ◌||◌, if◌then◌else◌, List, [], ◌∷◌, map, codes, slice_index, Option, Some, None}
 use Rattle.std.specs.List.{list_all, list_any, slice_split}
-use Rattle.std.specs.Str.{byte, bytes_eq}
-use Rattle.schedule_texts.specs.Fields.{is_comma, is_space}
+use Rattle.std.specs.Str.{bytes_eq}
+use Rattle.schedule_texts.specs.Signs.{is_comma, is_space}
 use Rattle.schedule_texts.specs.declared.aliases.AliasSet.{AliasSet}
 
 abbrev pub is_hourly : List ℕ → Bool

@@ -1,17 +1,12 @@
 -- The five fields of a schedule.
 use Rattle.std.specs.Prelude.{ℕ, ◌==◌, Bool, ◌&&◌, if◌then◌else◌, List, [], ◌∷◌, map, codes, Option, Some, None, is_some}
 use Rattle.std.specs.List.{list_all, list_any, slice_split}
-use Rattle.std.specs.Str.{byte, bytes_eq}
+use Rattle.std.specs.Str.{bytes_eq}
+use Rattle.schedule_texts.specs.Signs.{is_comma, is_space}
 use Rattle.schedule_texts.specs.Numbers.{set_of}
 use Rattle.schedule_texts.specs.Parts.{part_of, is_named}
 use Rattle.schedule_texts.specs.declared.numbers.NumberSet.{NumberSet}
 use Rattle.schedule_texts.specs.declared.fields.FieldSets.{FieldSets}
-
-abbrev pub is_comma : ℕ → Bool
-is_comma sign = sign == byte ","
-
-abbrev pub is_space : ℕ → Bool
-is_space sign = sign == byte " "
 
 -- The numbers of a field, which are from `least` to `most`: each text between commas is a part, and the numbers are
 -- those that a part has.

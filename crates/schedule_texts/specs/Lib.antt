@@ -1,3 +1,4 @@
+pub mod Signs
 pub mod Numbers
 pub mod Parts
 pub mod Fields

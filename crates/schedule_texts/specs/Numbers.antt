@@ -16,7 +16,7 @@ bit_of holds = if holds then 1 else 0
 -- the bits of the numbers below the limit that pass the test
 unfoldable pub bits_below : ℕ → (ℕ → Bool) → ℕ
 bits_below zero test = 0
-bits_below (suc n) test = bits_below n test + bit_of (test n) * 2 ^ n
+bits_below (suc n) test = bit_of (test n) * 2 ^ n + bits_below n test
 
 -- the set of the numbers up to 59 that pass the test
 abbrev pub set_of : (ℕ → Bool) → NumberSet

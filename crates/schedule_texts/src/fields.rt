@@ -1,8 +1,10 @@
 ghost use Rattle.std.specs.Prelude.{◌≡◌, ◌≢◌, ◌<◌, ◌∷◌, [], length, IfSome, IfNone};
 ghost use Rattle.std.specs.List.{slice_split};
 ghost use Rattle.schedule_texts.specs.Parts.{part_limit};
-ghost use Rattle.schedule_texts.specs.Fields.{field_of, fields_of, is_space};
+ghost use Rattle.schedule_texts.specs.Signs.{is_space};
+ghost use Rattle.schedule_texts.specs.Fields.{field_of, fields_of};
 
+use crate::cuts::cut;
 use crate::numbers::NumberSet;
 use crate::part::Part;
 
@@ -29,14 +31,6 @@ pub struct FieldTexts<'a> {
     pub weekdays: &'a str,
 }
 
-/// Cuts a text at its first space.
-fn cut(text: &str) -> Option<(&str, &str)>
-    ensures some { IfSome result (λ cut. slice_split is_space text.now ≡ cut.0.now ∷ slice_split is_space cut.1.now) }
-    ensures none { IfNone result (slice_split is_space text.now ≡ text.now ∷ []) }
-{
-    text.split_once(' ')
-}
-
 impl<'a> FieldTexts<'a> {
     /// Cuts a text into five at single spaces.
     fn cut(text: &'a str) -> Option<FieldTexts<'a>>
@@ -44,20 +38,20 @@ impl<'a> FieldTexts<'a> {
             ∷ texts.days.now ∷ texts.months.now ∷ texts.weekdays.now ∷ []) }
         ensures none { IfNone result (length (slice_split is_space text.now) ≢ 5) }
     {
-        let (minutes, rest) = cut(text)?;
-        let (hours, rest) = cut(rest)?;
-        let (days, rest) = cut(rest)?;
-        let (months, weekdays) = cut(rest)?;
-        if cut(weekdays).is_some() {
-            return None;
+        let (minutes, rest) = cut(text, ' ')?;
+        let (hours, rest) = cut(rest, ' ')?;
+        let (days, rest) = cut(rest, ' ')?;
+        let (months, weekdays) = cut(rest, ' ')?;
+        match cut(weekdays, ' ') {
+            Some(_) => None,
+            None => Some(FieldTexts {
+                minutes,
+                hours,
+                days,
+                months,
+                weekdays,
+            }),
         }
-        Some(FieldTexts {
-            minutes,
-            hours,
-            days,
-            months,
-            weekdays,
-        })
     }
 }
 

@@ -3,6 +3,7 @@
 #![tactic(auto)]
 
 mod aliases;
+mod cuts;
 mod fields;
 mod minute;
 mod numbers;

@@ -1,5 +1,7 @@
-ghost use Rattle.std.specs.Prelude.{◌≡◌, ◌<◌, IfSome};
+ghost use Rattle.std.specs.Prelude.{◌≡◌, ◌<◌, ◌≤◌, IfSome};
 ghost use Rattle.schedule_texts.specs.Parts.{number_of, range_of, part_of, part_limit, IsFitPart};
+
+use crate::cuts::cut;
 
 /// The greatest step.
 const GREATEST_STEP: u8 = 59;
@@ -21,7 +23,7 @@ impl Part {
         ensures part { result ≡ part_of least most text.now }
         ensures fit { IfSome result IsFitPart }
     {
-        if let Some((range, step)) = text.split_once('/') {
+        if let Some((range, step)) = cut(text, '/') {
             let part = Part::range(range, least, most)?;
             let step = number_in(step, 1, GREATEST_STEP)?;
             return Some(Part { step, ..part });
@@ -51,7 +53,7 @@ impl Part {
                 step: 1,
             });
         }
-        let (low, high) = text.split_once('-')?;
+        let (low, high) = cut(text, '-')?;
         let low = number_in(low, least, most)?;
         let high = number_in(high, least, most)?;
         if high < low {
@@ -65,7 +67,8 @@ impl Part {
 #[tactic(auto, unfolding(crate::specs::Parts::number_of))]
 fn number_in(text: &str, least: u8, most: u8) -> Option<u8>
     requires { most < part_limit }
-    ensures { result ≡ number_of least most text.now }
+    ensures number { result ≡ number_of least most text.now }
+    ensures within { IfSome result (λ number. (least ≤ number) × (number ≤ most)) }
 {
     let digits = text.as_bytes();
     if digits.is_empty() {

@@ -1,7 +1,7 @@
 use Rattle.std.proofs.Common.{◌∙◌, ap, ◌||◌}
 use Rattle.schedule_texts.specs.Numbers.{has}
 use Rattle.schedule_texts.specs.Parts.{part_has}
-use Rattle.schedule_texts.proofs.Sets.{one_on, all_below}
+use Rattle.schedule_texts.proofs.Sets.{one_on}
 use Rattle.schedule_texts.proofs.numbers.NumberSet.with_part.Goals as goal
 
 pub loop-number-preserved : goal.loop-number-preserved
