@@ -1,3 +1,4 @@
+pub mod Meanings
 pub mod Named
 pub mod Parts
 pub mod Sets

@@ -127,3 +127,7 @@ set_is set test each few = ap (λ (b : ℕ). let made : NumberSet = record { bit
     same : (i : ℕ) → (i < 60) ⊎ (60 ≤ i) → bit_at set.bits i ≡ bit_at (bits_below 60 test) i
     same i (inl l) = bit_by (bit_at set.bits i) (test i) (bit_at-lt set.bits i) (each i) ∙ sym ((bit_at-below test 60 i).0 l)
     same i (inr l) = bit_by (bit_at set.bits i) false (bit_at-lt set.bits i) (few i l) ∙ sym ((bit_at-below test 60 i).1 l)
+
+-- no number from 64 on is in a set
+pub none_above : (bits number : ℕ) → bits < 2 ^ 64 → 64 ≤ number → nat_lt number 64 ≡ (bit_at bits number == 1)
+none_above bits number small h = rw (bit_at_above bits 64 number small h) (grind (arith, nat_tests))

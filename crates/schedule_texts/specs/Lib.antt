@@ -4,3 +4,6 @@ pub mod Parts
 pub mod Fields
 pub mod Aliases
 pub mod Schedules
+pub mod Calendar
+pub mod Matches
+pub mod Expires

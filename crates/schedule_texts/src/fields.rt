@@ -2,9 +2,11 @@ ghost use Rattle.std.specs.Prelude.{◌≡◌, ◌≢◌, ◌<◌, ◌∷◌, []
 ghost use Rattle.std.specs.List.{slice_split};
 ghost use Rattle.schedule_texts.specs.Parts.{part_limit};
 ghost use Rattle.schedule_texts.specs.Signs.{is_space};
+ghost use Rattle.schedule_texts.specs.Matches.{fits_fields, fits_day};
 ghost use Rattle.schedule_texts.specs.Fields.{field_of, fields_of};
 
 use crate::cuts::cut;
+use crate::minute::CivilMinute;
 use crate::numbers::NumberSet;
 use crate::part::Part;
 
@@ -71,6 +73,29 @@ impl FieldSets {
             any_day: texts.days == "*",
             any_weekday: texts.weekdays == "*",
         })
+    }
+
+    /// Whether a minute is in the fields.
+    pub fn fits(&self, at: &CivilMinute) -> bool
+        ensures { result ≡ fits_fields self.now at.now }
+    {
+        self.minutes.has(at.minute)
+            && self.hours.has(at.hour)
+            && self.months.has(at.month)
+            && self.fits_day(at)
+    }
+
+    /// The day is in both day fields; where neither of them is `*` it is enough that it is in one.
+    fn fits_day(&self, at: &CivilMinute) -> bool
+        ensures { result ≡ fits_day self.now at.now }
+    {
+        let in_days = self.days.has(at.day);
+        let in_weekdays = self.weekdays.has(at.weekday);
+        if self.any_day || self.any_weekday {
+            in_days && in_weekdays
+        } else {
+            in_days || in_weekdays
+        }
     }
 }
 

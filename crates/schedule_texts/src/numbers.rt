@@ -20,10 +20,10 @@ impl NumberSet {
 
     /// Whether the number is in the set.
     pub fn has(&self, number: u8) -> bool
-        requires { number < 64 }
         ensures { result ≡ has self.now number }
     {
-        (self.bits >> number) & 1 == 1
+        let bits = self.bits;
+        number < 64 && (bits >> number) & 1 == 1
     }
 
     /// The same with one more number.

@@ -1,8 +1,10 @@
 ghost use Rattle.std.specs.Prelude.{◌≡◌};
+ghost use Rattle.schedule_texts.specs.Matches.{fits};
 ghost use Rattle.schedule_texts.specs.Schedules.{schedule_of};
 
 use crate::aliases::AliasSet;
 use crate::fields::FieldSets;
+use crate::minute::CivilMinute;
 use size_values::ValueFault;
 
 /// When snapshots are made, as `snapshots.schedule` of the Incus documentation's "Instance options" says it: five
@@ -11,6 +13,18 @@ use size_values::ValueFault;
 pub enum Schedule {
     Fields(FieldSets),
     Aliases(AliasSet),
+}
+
+impl Schedule {
+    /// Whether the schedule is due in a minute.
+    pub fn fits(&self, at: &CivilMinute) -> bool
+        ensures { result ≡ fits self.now at.now }
+    {
+        match self {
+            Schedule::Fields(fields) => fields.fits(at),
+            Schedule::Aliases(aliases) => aliases.fits(at),
+        }
+    }
 }
 
 /// Reads a schedule: five fields with one space between them, or aliases with commas between them.
