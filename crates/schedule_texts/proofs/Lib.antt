@@ -1,3 +1,4 @@
+pub mod Dates
 pub mod Meanings
 pub mod Named
 pub mod Parts

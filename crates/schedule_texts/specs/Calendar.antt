@@ -1,5 +1,5 @@
 -- The calendar in plain arithmetic, from 1970 on: days are counted from its first of January, which is day 0.
-use Rattle.std.specs.Prelude.{ℕ, zero, suc, ◌+◌, ◌-◌, ◌*◌, ◌/◌, ◌%◌, min, Bool, not, ◌==◌, ◌&&◌, ◌||◌, if◌then◌else◌, nat_lt}
+use Rattle.std.specs.Prelude.{ℕ, zero, suc, ◌+◌, ◌-◌, ◌*◌, ◌/◌, ◌%◌, ◌≤◌, min, Bool, not, ◌==◌, ◌&&◌, ◌||◌, if◌then◌else◌, nat_lt}
 
 -- a date
 pub record Date : Type 0 where
@@ -29,6 +29,14 @@ days_of_years (suc n) = days_of_years n + year_length (1970 + n)
 unfoldable pub days_of_months : ℕ → ℕ → ℕ
 days_of_months year zero = 0
 days_of_months year (suc n) = days_of_months year n + month_length year (suc n)
+
+-- the calendar has the date
+pub record IsDate (date : Date) : Type 0 where
+  pub since : 1970 ≤ date.year
+  pub month_first : 1 ≤ date.month
+  pub month_last : date.month ≤ 12
+  pub day_first : 1 ≤ date.day
+  pub day_last : date.day ≤ month_length date.year date.month
 
 -- the day of a date
 unfoldable pub day_of : Date → ℕ

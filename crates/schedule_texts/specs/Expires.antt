@@ -12,11 +12,15 @@ months_in expiry = 12 * expiry.years + expiry.months
 abbrev pub seconds_in : Expiry → ℕ
 seconds_in expiry = 604800 * expiry.weeks + 86400 * expiry.days + 3600 * expiry.hours + 60 * expiry.minutes
 
+-- the day so many months after a day
+unfoldable pub later_day : ℕ → ℕ → ℕ
+later_day months day = day_of (months_later months (date_of day))
+
 -- The moment at the end of an expiry: first the months by the calendar, at the same time of the day, and then the
 -- seconds.
 unfoldable pub end_of : ℕ → Expiry → ℕ
 end_of created expiry =
-    day_of (months_later (months_in expiry) (date_of (created / 86400))) * 86400 + created % 86400 + seconds_in expiry
+    later_day (months_in expiry) (created / 86400) * 86400 + created % 86400 + seconds_in expiry
 
 -- the same, where it is a moment
 unfoldable pub expires_at : ℕ → Expiry → Option ℕ

@@ -5,6 +5,7 @@
 mod aliases;
 mod cuts;
 mod fields;
+mod laws;
 mod minute;
 mod numbers;
 mod part;
@@ -12,6 +13,7 @@ mod schedule;
 
 pub use aliases::AliasSet;
 pub use fields::FieldSets;
+pub use laws::days_have_dates;
 pub use minute::CivilMinute;
 pub use numbers::NumberSet;
 pub use schedule::{Schedule, read_schedule};
