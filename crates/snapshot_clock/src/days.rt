@@ -1,5 +1,6 @@
 ghost use Rattle.std.specs.Prelude.{◌≡◌, ◌<◌, ◌≤ℤ◌, pos};
 ghost use Rattle.jiff.specs.Words.{epoch_day};
+ghost use Rattle.snapshot_clock.specs.Days.{day_limit};
 
 use jiff::ToSpan;
 use jiff::civil::Date;
@@ -19,7 +20,7 @@ fn first_date() -> Date
 
 /// The date of a day, which is counted from 1970 on.
 pub fn date_of(day: u64) -> Date
-    requires { day < 2_932_897 }
+    requires { day < day_limit }
     ensures { epoch_day result ≡ pos day }
 {
     let Ok(date) = first_date().checked_add((day as i64).days()) else {
