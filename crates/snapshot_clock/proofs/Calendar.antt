@@ -3,9 +3,11 @@ use Rattle.std.proofs.Common.{◌≡◌, ℕ, zero, suc, ◌+◌, ◌-◌, ◌*�
 use Rattle.std.proofs.lemmas.Bool.Decides.{nat_tests}
 use Rattle.jiff_core.specs.declared.civil.date.Date.{Date as Civil}
 use Rattle.jiff_core.specs.declared.span.Span.{Span}
-use Rattle.jiff_core.specs.declared.unit.Unit.TheVariants.{Day, Month}
+use Rattle.jiff_core.specs.declared.unit.Unit.TheVariants.{Day, Month, Hour, Minute, Second, Millisecond, Microsecond, Nanosecond}
 use Rattle.jiff_core.specs.Calendar.{day_count, days_in_month, days_from_civil, weekday_number, IsYear, IsEpochDay}
 use Rattle.jiff_core.specs.Calendar.{days_of_months as civil_months}
+use Rattle.jiff_core.specs.Sign.{signed}
+use Rattle.jiff_core.specs.Span.{span_months, span_days, clock_days}
 use Rattle.jiff_core.specs.Date.{epoch_day, IsYmd}
 use Rattle.jiff.specs.Words.{IsOnly, date_add, add_months, month_number, shifted_year, shifted_month, CanAddToDate}
 use Rattle.jiff.proofs.SpanFacts.{date_add-days}
@@ -13,7 +15,9 @@ use Rattle.jiff_core.proofs.SignedLemmas.{signed_arith}
 use Rattle.jiff_core.proofs.CalendarLemmas.{day_count-epoch, days_from_civil-day_count, day_count-day_of_year, day_count-next_year, day_count-later_year, day_count-end, weekday_number-parts}
 use Rattle.jiff_core.proofs.DateLemmas.{civil, epoch_day_range, epoch_day_injective}
 use Rattle.schedule_texts.specs.Calendar.{Date, IsDate, year_length, month_length, days_of_years, days_of_months, day_of, date_of, months_later, month_number as month_number_of}
-use Rattle.schedule_texts.specs.Expires.{later_day}
+use Rattle.size_values.specs.Moments.{moment_limit}
+use Rattle.size_values.specs.declared.expiry.Expiry.{Expiry}
+use Rattle.schedule_texts.specs.Expires.{later_day, months_in, seconds_in, end_of, expires_at}
 use Rattle.schedule_texts.proofs.Dates.{date_of_is, day_of_date_of}
 use Rattle.snapshot_clock.specs.Days.{day_limit, if_day}
 
@@ -144,3 +148,106 @@ shifted d months date same dated =
           parts.0 parts.1 same.day
           ∙ civil_day (months_later months date) (later_is months date dated);
     }
+
+-- ---- a day some months after a day
+
+zero_days : (b : Bool) (n : ℕ) → n ≡ 0 → signed b n ≡ pos 0
+zero_days true n e = rw e refl
+zero_days false n e = rw e refl
+
+-- a span of months alone
+months_span : (d : Civil) (months : ℕ) (s : Span) → IsOnly Month (pos months) s → date_add d s ≡ add_months d (pos months)
+months_span d months s only =
+    let m : span_months s ≡ pos months = omega (arith, signed_arith, only.months) in
+    let k : span_days s ≡ pos 0 = omega (arith, signed_arith, only.days) in
+    let c : clock_days s ≡ pos 0 = zero_days s.negative _ (omega (arith, only.others Hour (omega arith), only.others Minute (omega arith), only.others Second (omega arith),
+    only.others Millisecond (omega arith), only.others Microsecond (omega arith), only.others Nanosecond (omega arith))) in
+    rw (m, k, c) (omega (arith, signed_arith))
+
+pub later_same : (d : Civil) (day months : ℕ) (s : Span) → epoch_day d ≡ pos day → IsOnly Month (pos months) s → date_add d s ≡ pos (later_day months day)
+unfolding later_day
+later_same d day months s e only = months_span d months s only ∙ (shifted d months (date_of day) (date_is d day e) (date_of_is day)).day
+
+-- where the day so many months later is not too late, jiff has it
+pub later_if : (d : Civil) (day months : ℕ) (s : Span) → epoch_day d ≡ pos day → IsOnly Month (pos months) s → later_day months day < day_limit → CanAddToDate d s
+unfolding later_day
+later_if d day months s e only early =
+    let m : span_months s ≡ pos months = omega (arith, signed_arith, only.months) in
+    let there = shifted d months (date_of day) (date_is d day e) (date_of_is day) in
+    let year : shifted_year d (span_months s) ≡ pos (months_later months (date_of day)).year = ap (shifted_year d) m ∙ there.year in
+    let few = near (months_later months (date_of day)) (later_is months (date_of day) (date_of_is day)) early in
+    let last : date_add d s ≡ pos (later_day months day) = later_same d day months s e only in
+    ((omega (arith, signed_arith, year), omega (arith, signed_arith, year, few)), (omega (arith, signed_arith, last), omega (arith, signed_arith, last, early)))
+
+year_late : (months : ℕ) (date : Date) → IsDate date → 119988 < months → 10000 ≤ (months_later months date).year
+unfolding months_later
+year_late months date dated h = omega (arith, dated.since)
+
+-- so many months that no year is left
+pub too_many : (day months : ℕ) → 119988 < months → day_limit ≤ later_day months day
+unfolding later_day
+too_many day months h =
+    far (months_later months (date_of day)) (later_is months (date_of day) (date_of_is day)) (year_late months (date_of day) (date_of_is day) h)
+
+pub day_if : (day : ℕ) → day < day_limit → Some day ≡ if_day day
+day_if day h = let test : nat_lt day day_limit ≡ true = grind (arith, nat_tests) in rw test refl
+
+pub no_day : (day : ℕ) → day_limit ≤ day → None ≡ if_day day
+no_day day h = let test : nat_lt day day_limit ≡ false = grind (arith, nat_tests) in rw test refl
+
+-- jiff's date so many months later has that day
+pub later_found : (d later : Civil) (day months found : ℕ) (s : Span) → epoch_day d ≡ pos day → IsOnly Month (pos months) s → epoch_day later ≡ date_add d s
+    → pos found ≡ epoch_day later → Some found ≡ if_day (later_day months day)
+later_found d later day months found s e only added is =
+    let same : found ≡ later_day months day = omega (arith, signed_arith, is, added, later_same d day months s e only) in
+    let early : found < day_limit = omega (arith, signed_arith, is, (epoch_day_range later).1) in
+    day_if found early ∙ ap if_day same
+
+pub later_missed : (d : Civil) (day months : ℕ) (s : Span) → epoch_day d ≡ pos day → IsOnly Month (pos months) s → (CanAddToDate d s → ⊥) → None ≡ if_day (later_day months day)
+later_missed d day months s e only never =
+    no_day (later_day months day) (not_more day_limit (later_day months day) (λ early. never (later_if d day months s e only early)))
+  where
+    not_more : (a b : ℕ) → (b < a → ⊥) → a ≤ b
+    not_more a b never = grind arith
+
+-- ---- the end of an expiry
+
+some_day : (n day : ℕ) (b : Bool) → nat_lt n day_limit ≡ b → Some day ≡ (if b then Some n else None) → day ≡ n
+some_day n day true t e = cc
+some_day n day false t e = absurd (cc)
+
+late_day : (n : ℕ) (b : Bool) → nat_lt n day_limit ≡ b → None ≡ (if b then Some n else None) → day_limit ≤ n
+late_day n true t e = absurd (cc)
+late_day n false t e = grind (arith, nat_tests)
+
+if_moment : (moment : ℕ) → moment < moment_limit → Some moment ≡ (if nat_lt moment moment_limit then Some moment else None)
+if_moment moment h = let test : nat_lt moment moment_limit ≡ true = grind (arith, nat_tests) in rw test refl
+
+no_moment : (moment : ℕ) → moment_limit ≤ moment → None ≡ (if nat_lt moment moment_limit then Some moment else None)
+no_moment moment h = let test : nat_lt moment moment_limit ≡ false = grind (arith, nat_tests) in rw test refl
+
+-- the end where the day so many months later was found
+end_is : (created day : ℕ) (expiry : Expiry) → Some day ≡ if_day (later_day (months_in expiry) (created / 86400))
+    → end_of created expiry ≡ day * 86400 + created % 86400 + seconds_in expiry
+unfolding end_of
+end_is created day expiry found =
+    let same : day ≡ later_day (months_in expiry) (created / 86400) = some_day (later_day (months_in expiry) (created / 86400)) day (nat_lt (later_day (months_in expiry) (created / 86400)) day_limit) refl found in
+    ap (λ k. k * 86400 + created % 86400 + seconds_in expiry) (sym same)
+
+pub expires_then : (created day : ℕ) (expiry : Expiry) → Some day ≡ if_day (later_day (months_in expiry) (created / 86400))
+    → day * 86400 + created % 86400 + seconds_in expiry < moment_limit → Some (day * 86400 + created % 86400 + seconds_in expiry) ≡ expires_at created expiry
+unfolding expires_at
+expires_then created day expiry found h =
+    let same = end_is created day expiry found in
+    ap Some (sym same) ∙ if_moment (end_of created expiry) (omega (arith, same, h))
+
+pub expires_never : (created day : ℕ) (expiry : Expiry) → Some day ≡ if_day (later_day (months_in expiry) (created / 86400))
+    → moment_limit ≤ day * 86400 + created % 86400 + seconds_in expiry → None ≡ expires_at created expiry
+unfolding expires_at
+expires_never created day expiry found h = no_moment (end_of created expiry) (omega (arith, end_is created day expiry found, h))
+
+pub expires_beyond : (created : ℕ) (expiry : Expiry) → None ≡ if_day (later_day (months_in expiry) (created / 86400)) → None ≡ expires_at created expiry
+unfolding expires_at end_of
+expires_beyond created expiry missed =
+    let late = late_day (later_day (months_in expiry) (created / 86400)) (nat_lt (later_day (months_in expiry) (created / 86400)) day_limit) refl missed in
+    no_moment (end_of created expiry) (omega (arith, late))

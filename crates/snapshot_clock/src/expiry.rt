@@ -16,7 +16,9 @@ pub fn expires_at(created: u64, expiry: &Expiry) -> Option<u64>
     requires { created < moment_limit }
     ensures { result ≡ expires_at created expiry.now }
 {
-    let day = later_day(created / DAY, months_in(expiry))?;
+    let Some(day) = later_day(created / DAY, months_in(expiry)) else {
+        return None;
+    };
     let end = day * DAY + created % DAY + seconds_in(expiry);
     if end < MOMENT_LIMIT { Some(end) } else { None }
 }
@@ -47,6 +49,8 @@ fn later_day(day: u64, months: u64) -> Option<u64>
     if months > MOST_MONTHS {
         return None;
     }
-    let date = date_of(day).checked_add((months as i64).months()).ok()?;
+    let Ok(date) = date_of(day).checked_add((months as i64).months()) else {
+        return None;
+    };
     Some(day_of(date))
 }
