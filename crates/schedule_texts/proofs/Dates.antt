@@ -150,3 +150,74 @@ years_none = refl
 pub day_of_date_of : (day : ℕ) → day_of (date_of day) ≡ day
 unfolding date_of
 day_of_date_of day = omega (arith, (year_found day 1970 day (omega arith) (omega arith)).is, years_none)
+
+-- ---- and each date is the one of its day
+
+months_up : (y m k : ℕ) → days_of_months y m ≤ days_of_months y (m + k)
+unfolding days_of_months
+months_up y m zero = let none : m + 0 ≡ m = omega arith in omega (arith, ap (days_of_months y) none)
+months_up y m (suc k) =
+    let next : m + suc k ≡ suc (m + k) = omega arith in
+    omega (arith, months_up y m k, ap (days_of_months y) next)
+
+years_up : (n k : ℕ) → days_of_years n ≤ days_of_years (n + k)
+unfolding days_of_years
+years_up n zero = let none : n + 0 ≡ n = omega arith in omega (arith, ap days_of_years none)
+years_up n (suc k) =
+    let next : n + suc k ≡ suc (n + k) = omega arith in
+    omega (arith, years_up n k, ap days_of_years next)
+
+later_month : (y m later : ℕ) → m ≤ later → days_of_months y m ≤ days_of_months y later
+later_month y m later h =
+    let there : m + (later - m) ≡ later = omega arith in
+    omega (arith, months_up y m (later - m), ap (days_of_months y) there)
+
+later_year : (y later : ℕ) → 1970 ≤ y → y < later → days_of_years (y - 1970) + year_length y ≤ days_of_years (later - 1970)
+later_year y later since h =
+    let there : y + 1 - 1970 + (later - (y + 1)) ≡ later - 1970 = omega arith in
+    omega (arith, years_more y since, years_up (y + 1 - 1970) (later - (y + 1)), ap days_of_years there)
+
+-- a date lies before the end of its month, and of its year
+in_month : (p : Date) → IsDate p → days_of_months p.year (p.month - 1) + p.day ≤ days_of_months p.year p.month
+in_month p h = omega (arith, months_more p.year p.month h.month_first, h.day_last)
+
+of_year : (p : Date) → IsDate p → days_of_months p.year (p.month - 1) + p.day ≤ year_length p.year
+of_year p h = omega (arith, in_month p h, later_month p.year p.month 12 h.month_last, months_all p.year)
+
+earlier_year : (p q : Date) → IsDate p → IsDate q → p.year < q.year → day_of p < day_of q
+unfolding day_of
+earlier_year p q h k less = omega (arith, of_year p h, h.day_first, later_year p.year q.year h.since less)
+
+earlier_month : (p q : Date) → IsDate p → IsDate q → p.year ≡ q.year → p.month < q.month → day_of p < day_of q
+unfolding day_of
+earlier_month p q h k same less =
+    let later = later_month p.year p.month (q.month - 1) (omega arith) in
+    omega (arith, in_month p h, h.day_first, later, ap (λ y. days_of_years (y - 1970)) same, ap (λ y. days_of_months y (q.month - 1)) same)
+
+not_less : (a b : ℕ) → (a < b → ⊥) → (b < a → ⊥) → a ≡ b
+not_less a b up down = grind arith
+
+same_date : (p q : Date) → IsDate p → IsDate q → day_of p ≡ day_of q → p ≡ q
+unfolding day_of
+same_date p q h k e = by year month day
+  where
+    year : p.year ≡ q.year
+    year = not_less p.year q.year (λ less. omega (arith, e, earlier_year p q h k less)) (λ less. omega (arith, e, earlier_year q p k h less))
+
+    month : p.month ≡ q.month
+    month = not_less p.month q.month (λ less. omega (arith, e, earlier_month p q h k year less)) (λ less. omega (arith, e, earlier_month q p k h (sym year) less))
+
+    day : p.day ≡ q.day
+    day =
+        let years = ap (λ y. days_of_years (y - 1970)) year in
+        let months = ap (λ y. days_of_months y (p.month - 1)) year ∙ ap (λ m. days_of_months q.year (m - 1)) month in
+        omega (arith, e, years, months, h.day_first, k.day_first)
+
+    made : ℕ → ℕ → ℕ → Date
+    made y m d = record { year = y; month = m; day = d }
+
+    by : p.year ≡ q.year → p.month ≡ q.month → p.day ≡ q.day → p ≡ q
+    by a b c = ap (λ y. made y p.month p.day) a ∙ ap (λ m. made q.year m p.day) b ∙ ap (λ d. made q.year q.month d) c
+
+pub date_of_day_of : (date : Date) → IsDate date → date_of (day_of date) ≡ date
+date_of_day_of date h = same_date (date_of (day_of date)) date (date_of_is (day_of date)) h (day_of_date_of (day_of date))

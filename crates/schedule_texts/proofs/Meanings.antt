@@ -1,10 +1,9 @@
 -- What the aliases stand for, as sets of numbers.
-use Rattle.std.proofs.Common.{◌≡◌, ℕ, Bool, true, false, ◌&&◌, ◌||◌, List, Option, Some, None, refl, sym, ap, ◌∙◌}
+use Rattle.std.proofs.Common.{◌≡◌, ℕ, Bool, true, false, ◌&&◌, ◌||◌, Some, refl}
 use Rattle.std.specs.Prelude.{codes}
 use Rattle.schedule_texts.specs.declared.fields.FieldSets.{FieldSets}
 use Rattle.schedule_texts.specs.declared.aliases.AliasSet.{AliasSet}
 use Rattle.schedule_texts.specs.declared.minute.CivilMinute.{CivilMinute}
-use Rattle.schedule_texts.specs.declared.numbers.NumberSet.{NumberSet}
 use Rattle.schedule_texts.specs.Numbers.{bits_below}
 use Rattle.schedule_texts.specs.Parts.{part_of, range_of, number_of}
 use Rattle.schedule_texts.specs.Fields.{fields_of, field_of}

@@ -1,9 +1,9 @@
 -- Sets of numbers as bits.
-use Rattle.std.proofs.Common.{◌≡◌, ◌≢◌, ℕ, zero, suc, ◌+◌, ◌-◌, ◌*◌, ◌^◌, ◌<◌, ◌≤◌, ◌%◌, max, Bool, true, false, not, ◌==◌, ◌&&◌, ◌||◌, if◌then◌else◌, nat_lt, nat_le, refl, sym, ap, ◌∙◌, arith, rules, bit_or, lit<, ◌⊎◌, inl, inr}
+use Rattle.std.proofs.Common.{◌≡◌, ◌≢◌, ℕ, zero, suc, ◌+◌, ◌-◌, ◌*◌, ◌^◌, ◌<◌, ◌≤◌, ◌%◌, max, Bool, true, false, ◌==◌, ◌&&◌, ◌||◌, nat_lt, refl, sym, ap, ◌∙◌, arith, bit_or, lit<, ◌⊎◌, inl, inr}
 use Rattle.std.specs.Int.{bit_at}
 use Rattle.std.proofs.lemmas.Bool.{cases_lt}
 use Rattle.std.proofs.lemmas.Bool.Decides.{nat_tests}
-use Rattle.std.proofs.lemmas.Nat.Bits.{bit_at_or, bit_at-pow_same, bit_at-pow_other, bit_at-lt, same_from_bits, bit_at-zero, bit_at_cat_low, bit_at_cat_high, bit_at_above}
+use Rattle.std.proofs.lemmas.Nat.Bits.{bit_at_or, bit_at-pow_same, bit_at-pow_other, bit_at-lt, same_from_bits, bit_at_cat_low, bit_at_cat_high, bit_at_above}
 use Rattle.std.proofs.lemmas.Nat.{one_shl}
 use native.Mathlib.Nat.{pow-suc}
 use Rattle.std.proofs.lemmas.Grind.{common_steps}
@@ -19,9 +19,9 @@ one_more a b low_a low_b = grind (arith, nat_tests)
 
 alone : (number n : ℕ) → (bit_at (2 ^ number) n == 1) ≡ (n == number)
 alone number n = elim (n == number) as (λ b. (n == number) ≡ b → (bit_at (2 ^ number) n == 1) ≡ b) [
-    true ↦ λ e. let same : n ≡ number = grind (arith, nat_tests, e) in rw same (rw (bit_at-pow_same number) refl)
+  | true ↦ λ e. let same : n ≡ number = grind (arith, nat_tests, e) in rw same (rw (bit_at-pow_same number) refl)
   | false ↦ λ e. let apart : n ≢ number = λ same. grind (arith, nat_tests, e, same) in rw (bit_at-pow_other number n apart) refl
-  ] refl
+] refl
 
 pub has_one_more : (bits number n : ℕ) → number < 64
     → (bit_at (bit_or bits (1 * 2 ^ number % 2 ^ 64)) n == 1) ≡ ((bit_at bits n == 1) || (n == number))
@@ -40,16 +40,16 @@ or_true false b h = h
 -- a number that is one of the part
 pub taken : (part : Part) (number n : ℕ) (a : Bool) → part_has number part ≡ true → (a || (n == number)) ≡ (a || (n == number && part_has n part))
 taken part number n a one = elim (n == number) as (λ b. (n == number) ≡ b → (a || b) ≡ (a || (b && part_has n part))) [
-    true ↦ λ e. let same : n ≡ number = grind (arith, nat_tests, e) in ap (λ b. a || b) (sym (ap (λ k. part_has k part) same ∙ one))
+  | true ↦ λ e. let same : n ≡ number = grind (arith, nat_tests, e) in ap (λ b. a || b) (sym (ap (λ k. part_has k part) same ∙ one))
   | false ↦ λ e. refl
-  ] refl
+] refl
 
 -- and one that is none of it
 pub passed_by : (part : Part) (number n : ℕ) (a : Bool) → part_has number part ≡ false → a ≡ (a || (n == number && part_has n part))
 passed_by part number n a none = elim (n == number) as (λ b. (n == number) ≡ b → a ≡ (a || (b && part_has n part))) [
-    true ↦ λ e. let same : n ≡ number = grind (arith, nat_tests, e) in sym (ap (λ b. a || b) (ap (λ k. part_has k part) same ∙ none) ∙ or_false a)
+  | true ↦ λ e. let same : n ≡ number = grind (arith, nat_tests, e) in sym (ap (λ b. a || b) (ap (λ k. part_has k part) same ∙ none) ∙ or_false a)
   | false ↦ λ e. sym (or_false a)
-  ] refl
+] refl
   where
     or_false : (b : Bool) → b || false ≡ b
     or_false true = refl
@@ -91,11 +91,11 @@ place : (test : ℕ → Bool) (m n : ℕ) → (n < m → bit_at (bits_below m te
     → (n < suc m → bit_at (bits_below (suc m) test) n ≡ bit_of (test n)) × (suc m ≤ n → bit_at (bits_below (suc m) test) n ≡ 0)
 unfolding bits_below
 place test m n low high = (
-    (λ l. below_or_at (cases_lt n m) l),
-    λ l.
-    let far : 1 ≤ n - m = omega (arith, l) in
-    bit_at_cat_high (bit_of (test m)) m (bits_below m test) n (below_bits test m) (omega (arith, l))
-    ∙ bit_at_above (bit_of (test m)) 1 (n - m) (one_bit (test m)) far,
+  (λ l. below_or_at (cases_lt n m) l),
+  λ l.
+      let far : 1 ≤ n - m = omega (arith, l) in
+      bit_at_cat_high (bit_of (test m)) m (bits_below m test) n (below_bits test m) (omega (arith, l))
+      ∙ bit_at_above (bit_of (test m)) 1 (n - m) (one_bit (test m)) far,
 )
   where
     one_bit : (b : Bool) → bit_of b < 2 ^ 1
@@ -131,3 +131,11 @@ set_is set test each few = ap (λ (b : ℕ). let made : NumberSet = record { bit
 -- no number from 64 on is in a set
 pub none_above : (bits number : ℕ) → bits < 2 ^ 64 → 64 ≤ number → nat_lt number 64 ≡ (bit_at bits number == 1)
 none_above bits number small h = rw (bit_at_above bits 64 number small h) (grind (arith, nat_tests))
+
+-- and it has them
+pub set_has : (test : ℕ → Bool) (n : ℕ) → n < 60 → has (set_of test) n ≡ test n
+set_has test n h = ap (λ b. b == 1) ((bit_at-below test 60 n).0 h) ∙ bit_is (test n)
+  where
+    bit_is : (b : Bool) → (bit_of b == 1) ≡ b
+    bit_is true = refl
+    bit_is false = refl

@@ -1,6 +1,6 @@
 -- Texts that are cut, and numbers in them.
-use Rattle.std.proofs.Common.{◌≡◌, ◌≢◌, ℕ, zero, suc, ◌+◌, ◌-◌, ◌*◌, ◌^◌, ◌<◌, ◌≤◌, min, Bool, true, false, not, ◌==◌, ◌&&◌, ◌||◌, if◌then◌else◌, nat_lt, nat_le, List, [], ◌∷◌, ◌++◌, length, take, get_or, Option, Some, None, Bor, unwrap_or, MatchOption, IfSome, IfNone, refl, sym, ap, ◌∙◌, arith, rules}
-use Rattle.std.specs.List.{slice_split, before_first, after_first, position_or_len, list_all, list_any}
+use Rattle.std.proofs.Common.{◌≡◌, ◌≢◌, ℕ, suc, ◌+◌, ◌-◌, ◌*◌, ◌<◌, min, Bool, true, false, ◌&&◌, if◌then◌else◌, List, [], ◌∷◌, length, take, get_or, Option, Some, None, Bor, unwrap_or, MatchOption, IfSome, IfNone, refl, sym, ap, ◌∙◌, arith}
+use Rattle.std.specs.List.{slice_split, before_first, after_first, position_or_len, list_any}
 use Rattle.std.specs.Char.{is_ascii_digit, digit_value}
 use Rattle.std.specs.Str.Parse.{digits_value}
 use Rattle.std.proofs.lemmas.Bool.Decides.{nat_tests}
@@ -8,9 +8,6 @@ use Rattle.std.proofs.lemmas.Int.Digits.{digits_value_more}
 use Rattle.std.proofs.lemmas.List.Splits.{slice_split_first, slice_split_none}
 use Rattle.std.proofs.lemmas.List.Sums.{fails_before_first, passes_at_first}
 use Rattle.std.proofs.lemmas.List.Folds.{list_any_at}
-use Rattle.std.proofs.lemmas.Grind.{common_steps}
-use Rattle.size_values.specs.Reading.{is_outside}
-use Rattle.schedule_texts.specs.Parts.{number_of}
 use Rattle.schedule_texts.specs.Signs.{is_sign, is_space}
 use Rattle.schedule_texts.specs.Aliases.{without_space}
 

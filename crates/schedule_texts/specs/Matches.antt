@@ -1,5 +1,5 @@
 -- At which moments a schedule is due.
-use Rattle.std.specs.Prelude.{ℕ, ◌+◌, ◌*◌, ◌/◌, ◌%◌, Bool, false, ◌==◌, ◌&&◌, ◌||◌, if◌then◌else◌, List, codes, Option, Some, None}
+use Rattle.std.specs.Prelude.{ℕ, ◌/◌, ◌%◌, Bool, false, ◌==◌, ◌&&◌, ◌||◌, if◌then◌else◌, List, codes, Option, Some, None}
 use Rattle.schedule_texts.specs.Numbers.{has}
 use Rattle.schedule_texts.specs.Fields.{fields_of}
 use Rattle.schedule_texts.specs.Calendar.{date_of, weekday_of}

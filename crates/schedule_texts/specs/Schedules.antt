@@ -1,5 +1,5 @@
 -- What the text of a schedule says.
-use Rattle.std.specs.Prelude.{ℕ, List, [], ◌∷◌, Result, Ok, Err, ok_or, length, ◌==◌, if◌then◌else◌}
+use Rattle.std.specs.Prelude.{ℕ, List, Result, Err, ok_or, length, ◌==◌, if◌then◌else◌}
 use Rattle.std.specs.Option.{option_map, option_or}
 use Rattle.size_values.specs.declared.fault.ValueFault.{ValueFault}
 use Rattle.size_values.specs.declared.fault.ValueFault.TheVariants.{Empty, OutOfRange}

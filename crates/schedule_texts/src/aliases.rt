@@ -70,7 +70,7 @@ impl AliasSet {
 
     /// Reads aliases with a comma between them, and one space or none behind each comma.
     #[tactic(auto, unfolding(crate::specs::Aliases::aliases_of))]
-    pub fn read(text: &str) -> Option<AliasSet>
+    pub(crate) fn read(text: &str) -> Option<AliasSet>
         ensures { result ≡ aliases_of text.now }
     {
         if text.starts_with(' ') {
@@ -83,8 +83,8 @@ impl AliasSet {
         Some(aliases)
     }
 
-    #[tactic(auto, using(crate::proofs::Meanings::meanings))]
     /// Whether a minute is in the fields that one of the aliases stands for.
+    #[tactic(auto, using(crate::proofs::Meanings::meanings))]
     pub fn fits(&self, at: &CivilMinute) -> bool
         ensures { result ≡ fits_aliases self.now at.now }
     {

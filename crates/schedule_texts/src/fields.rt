@@ -60,7 +60,7 @@ impl<'a> FieldTexts<'a> {
 impl FieldSets {
     /// Reads five fields with one space between them: minute, hour, day, month and weekday.
     #[tactic(auto, unfolding(crate::specs::Fields::fields_of))]
-    pub fn read(text: &str) -> Option<FieldSets>
+    pub(crate) fn read(text: &str) -> Option<FieldSets>
         ensures { result ≡ fields_of text.now }
     {
         let texts = FieldTexts::cut(text)?;

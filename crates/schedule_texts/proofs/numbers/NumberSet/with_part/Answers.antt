@@ -1,6 +1,5 @@
-use Rattle.std.proofs.Common.{◌∙◌, ap, ◌||◌}
+use Rattle.std.proofs.Common.{◌∙◌}
 use Rattle.schedule_texts.specs.Numbers.{has}
-use Rattle.schedule_texts.specs.Parts.{part_has}
 use Rattle.schedule_texts.proofs.Sets.{one_on}
 use Rattle.schedule_texts.proofs.numbers.NumberSet.with_part.Goals as goal
 
