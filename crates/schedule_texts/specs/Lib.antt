@@ -1,0 +1,9 @@
+pub mod Signs
+pub mod Numbers
+pub mod Parts
+pub mod Fields
+pub mod Aliases
+pub mod Schedules
+pub mod Calendar
+pub mod Matches
+pub mod Expires
