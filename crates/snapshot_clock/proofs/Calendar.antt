@@ -160,8 +160,15 @@ months_span : (d : Civil) (months : ℕ) (s : Span) → IsOnly Month (pos months
 months_span d months s only =
     let m : span_months s ≡ pos months = omega (arith, signed_arith, only.months) in
     let k : span_days s ≡ pos 0 = omega (arith, signed_arith, only.days) in
-    let c : clock_days s ≡ pos 0 = zero_days s.negative _ (omega (arith, only.others Hour (omega arith), only.others Minute (omega arith), only.others Second (omega arith),
-    only.others Millisecond (omega arith), only.others Microsecond (omega arith), only.others Nanosecond (omega arith))) in
+    let c : clock_days s ≡ pos 0 = zero_days s.negative _ (omega (
+      arith,
+      only.others Hour (omega arith),
+      only.others Minute (omega arith),
+      only.others Second (omega arith),
+      only.others Millisecond (omega arith),
+      only.others Microsecond (omega arith),
+      only.others Nanosecond (omega arith),
+    )) in
     rw (m, k, c) (omega (arith, signed_arith))
 
 pub later_same : (d : Civil) (day months : ℕ) (s : Span) → epoch_day d ≡ pos day → IsOnly Month (pos months) s → date_add d s ≡ pos (later_day months day)
