@@ -7,7 +7,7 @@ The program is crates/incusd/out/incusd without `--program` (`bin/incusd --prove
 it takes, so each is killed at the end of its check.
 
 1. `short`: N short connections (200,000) in rounds of 500 at once. Its threads, memory maps and handles are those after the first round,
-   and its memory grows by no more than a tenth.
+   and its memory grows by no more than 4 MB.
 2. `too many`: with `--at-once 8`, eight connections are kept open; each further one is answered 503 and closed within a second, and once
    one of the eight has gone the next is served.
 3. `handles`: a server that may open 64 handles is asked over more connections than that. Once they have gone it answers within a second,
@@ -109,7 +109,7 @@ def short(program, connections):
         rate, after = made / (time.monotonic() - started), settled(server)
     told = "threads {}, maps {}, handles {}, {} kB".format(*after)
     need(after[0] <= before[0] + 1 and after[2] <= before[2] + 1, f"{before} became {after}")
-    need(after[1] <= before[1] + 16 and after[3] <= 1.1 * before[3], f"{before} became {after}")
+    need(after[1] <= before[1] + 64 and after[3] <= before[3] + 4096, f"{before} became {after}")
     return f"{made} connections, {rate:.0f} a second; {told}, as after the first {2 * AT_ONCE}: " \
            + "{}, {}, {}, {} kB".format(*before)
 

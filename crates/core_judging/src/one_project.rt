@@ -230,7 +230,7 @@ fn after_change<'x>(
     name: &str,
     before: Option<&'x Project>,
 ) -> Option<&'x Project>
-    ensures { option_copied result ≡ after_change change.now name.now (option_copied before) }
+    ensures { option_copied result ≡ after_change change.now name.now (option_copied before.entry) }
 {
     match change {
         RowChange::Put(Row::Project(project)) => {

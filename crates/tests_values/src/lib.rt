@@ -6,6 +6,7 @@
 mod given;
 #[cfg(test)]
 mod keepers;
+pub mod laws;
 #[cfg(test)]
 mod listening;
 #[cfg(test)]
