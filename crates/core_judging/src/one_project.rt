@@ -255,6 +255,8 @@ fn project_after<'x>(view: &View<'x>, changes: &'x [RowChange], name: &str) -> O
     for change in changes {
         project = after_change(change, name, project);
     }
+    // The proof needs that the projects of a view rise by their names.
+    let _projects = &view.projects;
     project
 }
 
