@@ -1,6 +1,6 @@
 use Rattle.std.proofs.Common.{◌≡◌, subst, sym, ap, arith}
 use Rattle.std.specs.Prelude.{IfSome}
-use Rattle.size_values.specs.Amounts.{nothing, part}
+use Rattle.size_values.specs.Amounts.{part}
 use Rattle.row_machine.specs.machine.Usage.{usage_of}
 use Rattle.core_totals.specs.Totals.{AreTotals}
 use Rattle.core_totals.proofs.Few.{few-used}
@@ -20,5 +20,5 @@ returns-clause-totals c =
 
 pub returns-then-not-needs_usage-clause-serves : goal.returns-then-not-needs_usage-clause-serves
 returns-then-not-needs_usage-clause-serves c =
-    c.needs_usage.ensures c.if-not-needs_usage.true c.args.view.now.projects c.args.name.now nothing
+    c.needs_usage.ensures c.if-not-needs_usage.true c.args.view.now.projects c.args.name.now c.zero.result
     (usage_of c.args.view.now c.args.name.now) c.requires.limits
