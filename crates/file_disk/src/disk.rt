@@ -7,7 +7,7 @@ ghost use Rattle.file_disk.specs.Silent.{silent_disk};
 use disk_model::{Disk, DiskFailed};
 use size_values::Or;
 use std::fs::File;
-use std::fs::unix::FileExt;
+use std::os::unix::fs::FileExt;
 
 /// The first bytes of the file of a journal: its name and version.
 pub const HEADER: [u8; 16] = *b"incus journal 1\n";

@@ -3,9 +3,9 @@ use crate::disk::{FileDisk, HEADER};
 use crate::refusal::FileRefused;
 use size_values::Or;
 use std::fs;
-use std::fs::unix::{FileExt, OpenOptionsExt};
 use std::fs::{File, TryLockError};
 use std::io::ErrorKind;
+use std::os::unix::fs::{FileExt, OpenOptionsExt};
 
 /// The bytes of a header before its version.
 const NAME_LEN: usize = 14;
@@ -50,8 +50,8 @@ fn lock(file: &File) -> Result<(), FileRefused> {
 }
 
 /// Judges the first bytes of a file.
-fn judge(header: &[u8]) -> Result<(), FileRefused> {
-    if header == HEADER.as_slice() {
+fn judge(header: &[u8; 16]) -> Result<(), FileRefused> {
+    if *header == HEADER {
         return Ok(());
     }
     if header[..NAME_LEN] == HEADER[..NAME_LEN] && header[NAME_LEN].is_ascii_digit() {

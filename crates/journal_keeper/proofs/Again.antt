@@ -1,8 +1,8 @@
 -- What was written is read again: parts, changes and commits.
-use Rattle.std.proofs.Common.{◌≡◌, ℕ, zero, suc, ◌+◌, ◌^◌, ◌<◌, ◌≤◌, Bool, true, false, cond, ltb, leb, ◌&&◌, List, [], ◌∷◌, ◌++◌, length, take, drop, Option, Some, None, refl, sym, ap, ◌∙◌, append_assoc, arith, length-append}
+use Rattle.std.proofs.Common.{◌≡◌, ℕ, suc, ◌^◌, ◌<◌, true, false, cond, ltb, leb, List, [], ◌∷◌, ◌++◌, length, take, drop, Some, None, refl, sym, ap, ◌∙◌, append_assoc, arith, length-append}
 use Rattle.std.specs.Int.{w32, from_be_bytes, to_be_bytes}
 use Rattle.std.specs.List.{flat_map, list_all, AllByRecursion}
-use Rattle.std.specs.Str.{IsUtf8, is_utf8}
+use Rattle.std.specs.Str.{IsUtf8}
 use Rattle.std.proofs.lemmas.Bool.{ltb-true, le-ltb, le-leb}
 use Rattle.std.proofs.lemmas.List.{take_at, drop_at, append-nil}
 use Rattle.std.proofs.lemmas.List.Concat.{flat_map-cons}
@@ -10,7 +10,7 @@ use Rattle.std.proofs.lemmas.Nat.{from_be_bytes-to_be_bytes_4}
 use Rattle.std.proofs.lemmas.Str.{is_utf8-from_IsUtf8}
 use Rattle.size_values.specs.declared.entry.EntryChange.{EntryChange}
 use Rattle.size_values.specs.declared.entry.EntryChange.TheVariants.{Put, Remove}
-use Rattle.journal_keeper.specs.Texts.{◌>>=◌, Commit, Read, part_bytes, change_bytes, commit_text, is_short, is_short_change, is_short_commit, IsTypedChange, count_at, part_at, key_at, put_at, removal_at, change_at, changes_at, ended, commit_of}
+use Rattle.journal_keeper.specs.Texts.{Commit, Read, part_bytes, change_bytes, commit_text, is_short, is_short_change, is_short_commit, IsTypedChange, count_at, part_at, key_at, put_at, removal_at, change_at, changes_at, commit_of}
 use Rattle.journal_keeper.proofs.Written.{both_true}
 
 -- a number in so many bytes

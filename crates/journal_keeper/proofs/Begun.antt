@@ -1,5 +1,5 @@
 -- A load that writes the gate of an empty chain, and one that reads a file.
-use Rattle.std.proofs.Common.{◌≡◌, ◌⊎◌, inl, inr, ℕ, ◌+◌, ◌≤◌, ◌<◌, max, Bool, List, [], ◌∷◌, ◌++◌, length, Option, Some, None, IfSome, IfOk, Result, Ok, Err, refl, sym, ap, subst, ◌∙◌, arith}
+use Rattle.std.proofs.Common.{◌≡◌, inl, inr, ℕ, ◌≤◌, List, [], ◌∷◌, length, Option, Some, None, IfSome, Ok, Err, refl, sym, ap, subst, ◌∙◌, arith}
 use Rattle.std.specs.Prelude.{is_some, option_map}
 use Rattle.std.proofs.lemmas.List.{drop_all}
 use Rattle.std.specs.List.Sorted.{IsStrictlySortedBy}
@@ -7,15 +7,15 @@ use Rattle.record_keeper.specs.Entries.{IsOrderedEntries}
 use Rattle.size_values.specs.declared.entry.Entry.{Entry}
 use Rattle.disk_model.specs.Disk.{DiskState, LeavesOnly, Torn, Only, MayStay, WritesNothing, patched, disk_limit, Follows}
 use Rattle.journal_keeper.specs.Texts.{Commit}
-use Rattle.journal_keeper.specs.Chain.{HasCommits, AreRecords, Chain, chain_of, rows_of}
-use Rattle.journal_keeper.specs.Keeping.{IsLeft, IsClosed, IsUnsure, HasAlways, Stands, IsSound, LeavesTold, TornFrom, IsMended, IsSettled, first_gate, read_gate, StandsOn, Loads, LeavesChain, IsLoadOf, entries_told}
+use Rattle.journal_keeper.specs.Chain.{Chain, chain_of, rows_of}
+use Rattle.journal_keeper.specs.Keeping.{IsLeft, IsClosed, IsUnsure, HasAlways, Stands, IsSound, LeavesTold, TornFrom, IsMended, IsSettled, first_gate, read_gate, StandsOn, Loads, LeavesChain, entries_told}
 use Rattle.journal_keeper.specs.declared.gate.Gate.{Gate}
 use Rattle.journal_keeper.specs.declared.gate.Gate.TheVariants.{Unread, Closed, Unsure}
 use Rattle.journal_keeper.proofs.ReadChain.{chain_read}
 use Rattle.journal_keeper.proofs.Moments.{weaker}
 use Rattle.journal_keeper.proofs.Torn.{closed_long}
 use Rattle.journal_keeper.proofs.Standing.{always_from, always_written}
-use Rattle.journal_keeper.proofs.Told.{some_is, no_some, told_closed, told_is, same_told, told_same, quiet_stands, quiet_chain, quiet_always, quiet_sound}
+use Rattle.journal_keeper.proofs.Told.{some_is, told_closed, told_is, same_told, told_same, quiet_stands, quiet_chain, quiet_always, quiet_sound}
 
 abbrev IsSmall : List ℕ → Type 0
 IsSmall file = length file ≤ 1

@@ -1,5 +1,5 @@
 -- The count of failures of a keeper is the sum of three.
-use Rattle.std.proofs.Common.{◌≡◌, inl, inr, ℕ, ◌+◌, ◌≤◌, min, Option, Some, None, List, IfSome, Result, Ok, Err, refl, ap, arith}
+use Rattle.std.proofs.Common.{ℕ, ◌≤◌, Option, Some, None, List, IfSome, Result, Ok, Err, refl, arith}
 use Rattle.size_values.specs.CallCounts.{CountsFailure}
 use Rattle.size_values.specs.Calls.{last_number}
 use Rattle.size_values.specs.declared.memory.Or.{Or}

@@ -10,3 +10,4 @@ pub mod Standing
 pub mod Told
 pub mod Begun
 pub mod Counts
+pub mod Histories

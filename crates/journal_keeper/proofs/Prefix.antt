@@ -1,17 +1,17 @@
 -- A file that is read record by record, as a loop does, and a block as it is written.
-use Rattle.std.proofs.Common.{◌≡◌, ◌≢◌, inl, inr, ℕ, ◌+◌, ◌-◌, ◌^◌, ◌<◌, ◌≤◌, List, [], ◌∷◌, ◌++◌, length, Option, Some, None, true, false, Result, Ok, Err, IfOk, Vec, refl, sym, ap, subst, ◌∙◌, append_assoc, arith, length-append}
+use Rattle.std.proofs.Common.{◌≡◌, ◌≢◌, inl, inr, ℕ, ◌-◌, ◌^◌, ◌<◌, List, [], ◌∷◌, ◌++◌, length, Some, None, true, false, Result, Ok, Err, IfOk, Vec, refl, sym, ap, ◌∙◌, append_assoc, arith, length-append}
 use Rattle.std.specs.Prelude.{◌==◌}
 use Rattle.std.specs.declared.alloc.Global.{Global}
-use Rattle.std.specs.Int.{w64, from_be_bytes, to_be_bytes}
+use Rattle.std.specs.Int.{w64, to_be_bytes}
 use Rattle.std.specs.List.{AllByRecursion}
 use Rattle.std.proofs.lemmas.Bool.{cases_eq}
 use Rattle.std.proofs.lemmas.Bool.Decides.{nat_tests}
-use Rattle.std.proofs.lemmas.List.{append-nil, append_cancel_left}
+use Rattle.std.proofs.lemmas.List.{append_cancel_left}
 use Rattle.std.proofs.lemmas.Nat.{from_be_bytes-to_be_bytes_8}
 use Rattle.size_values.specs.declared.entry.Entry.{Entry}
 use Rattle.record_keeper.specs.Entries.{after_changes}
 use Rattle.journal_keeper.specs.Texts.{Commit, commit_text, is_short_commit, IsTypedChange}
-use Rattle.journal_keeper.specs.Chain.{IsRecord, AreRecords, HasCommits, HasBadRecord, entries_after, rows_of, size_bytes, behind_open, record_at}
+use Rattle.journal_keeper.specs.Chain.{IsRecord, HasBadRecord, entries_after, rows_of, size_bytes, behind_open, record_at}
 use Rattle.journal_keeper.specs.Keeping.{IsClosed, IsBlock, ReadsTo}
 use Rattle.journal_keeper.proofs.Again.{commit_again}
 use Rattle.journal_keeper.proofs.ReadChain.{found_record, record_read}

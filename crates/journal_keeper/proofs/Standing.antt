@@ -1,19 +1,15 @@
 -- What a journal stands for, before and after the writes of its keeper.
-use Rattle.std.proofs.Common.{◌≡◌, ◌⊎◌, inl, inr, ⊎_elim, ℕ, ◌+◌, ◌≤◌, Bool, true, false, List, [], ◌∷◌, ◌++◌, length, Option, Some, None, IfSome, Result, Ok, Err, OnOk, OnErr, refl, sym, ap, subst, ◌∙◌, arith, append_assoc, length-append}
+use Rattle.std.proofs.Common.{◌≡◌, inl, inr, ℕ, ◌+◌, ◌≤◌, true, List, [], ◌∷◌, ◌++◌, length, Option, Some, None, IfSome, Result, Ok, Err, refl, sym, ap, subst, ◌∙◌, arith, length-append}
 use Rattle.std.specs.Prelude.{is_some, option_map}
 use Rattle.plain_lists.specs.Members.{Mem}
-use Rattle.record_keeper.specs.Entries.{after_changes}
-use Rattle.size_values.specs.declared.entry.Entry.{Entry}
 use Rattle.disk_model.specs.Disk.{DiskState, LeavesOnly, Torn, Only, MayStay, patched, disk_limit, Follows}
-use Rattle.journal_keeper.specs.Texts.{Commit, ◌>>=◌}
-use Rattle.journal_keeper.specs.Chain.{IsRecord, HasCommits, Chain, chain_of, rows_of}
-use Rattle.journal_keeper.specs.Keeping.{IsLeft, IsClosed, HasDoubt, IsUnsure, HasAlways, Stands, IsSound, LeavesTold, TornFrom, mended, IsLoaded, Commits, StandsOn, IsBlock, read_as, entries_told, is_read}
+use Rattle.journal_keeper.specs.Texts.{Commit}
+use Rattle.journal_keeper.specs.Chain.{Chain}
+use Rattle.journal_keeper.specs.Keeping.{IsLeft, IsClosed, HasDoubt, IsUnsure, HasAlways, Stands, IsSound, LeavesTold, LeavesNow, TornFrom, IsLoaded, Commits, StandsOn, IsBlock, is_read}
 use Rattle.journal_keeper.specs.declared.gate.Gate.{Gate}
 use Rattle.journal_keeper.specs.declared.gate.Gate.TheVariants.{Unread, Closed, Unsure}
-use Rattle.journal_keeper.proofs.ReadChain.{chain_read}
-use Rattle.journal_keeper.proofs.Prefix.{rows_push}
 use Rattle.journal_keeper.proofs.Moments.{started, joined, weaker}
-use Rattle.journal_keeper.proofs.Torn.{torn_behind, closed_long, doubt_written, gate_written, open_doubt, other_gate, doubt_left, unsure_left, torn_unsure, unsure_shut, unsure_long}
+use Rattle.journal_keeper.proofs.Torn.{torn_behind, doubt_written, gate_written, open_doubt, other_gate, doubt_left, unsure_left, torn_unsure, unsure_shut, unsure_long}
 
 -- ---- commits in doubt
 
@@ -132,6 +128,31 @@ sound_for d Unread loaded is = absurd loaded
 sound_for d (Closed place) loaded is = record { base = is.0; doubts = is.1; stands = is.2 }
 sound_for d (Unsure place) loaded is = record { base = is.0; doubts = is.1; stands = is.2 }
 
+-- what a journal stands for is what a crash may leave of it
+pub stands_left : (d : DiskState) (gate : Gate) (base doubts : List Commit) → Stands d gate base doubts → LeavesNow d (IsLeft base doubts)
+stands_left d Unread base doubts is = absurd is
+stands_left d (Closed place) base doubts is = go d.contents is.1
+  where
+    go : (o : Option (List ℕ)) → IfSome o (λ file. IsClosed place base file × ((left : List ℕ) → d.may_leave left → IsClosed place base left)) → IfSome o (λ _. (left : List ℕ) → d.may_leave left → IsLeft base doubts left)
+    go None closed = tt
+    go (Some file) closed = λ left may. closed_left place base doubts left (closed.1 left may)
+stands_left d (Unsure place) base doubts is = go d.contents is.1
+  where
+    go : (o : Option (List ℕ)) → IfSome o (λ file. IsUnsure place base doubts file × ((left : List ℕ) → d.may_leave left → IsUnsure place base doubts left)) → IfSome o (λ _. (left : List ℕ) → d.may_leave left → IsLeft base doubts left)
+    go None unsure = tt
+    go (Some file) unsure = λ left may. unsure_left place base doubts left (unsure.1 left may)
+
+no_doubt : (base : List Commit) (left : List ℕ) → IsLeft base [] left → Chain left base
+no_doubt base left (inl is) = is
+no_doubt base left (inr is) = absurd is.1
+
+pub stands_alone : (d : DiskState) (gate : Gate) (base : List Commit) → Stands d gate base [] → LeavesNow d (λ left. Chain left base)
+stands_alone d gate base is = go d.contents (stands_left d gate base [] is)
+  where
+    go : (o : Option (List ℕ)) → IfSome o (λ _. (left : List ℕ) → d.may_leave left → IsLeft base [] left) → IfSome o (λ _. (left : List ℕ) → d.may_leave left → Chain left base)
+    go None all = tt
+    go (Some file) all = λ left may. no_doubt base left (all left may)
+
 -- nothing was written yet
 pub stands_on_same : (d : DiskState) (gate : Gate) (base doubts : List Commit) → ((left : List ℕ) → d.left_since d.moment left → d.may_leave left) → Stands d gate base doubts → StandsOn d d gate base doubts
 stands_on_same d Unread base doubts now is = absurd is
@@ -164,6 +185,7 @@ module _ (old : DiskState) (place : ℕ) (base doubts : List Commit) (changes : 
       → Commits old new (Closed place) base doubts changes (Err why)
   not_staged new count why moments tells stays crash = record {
     any_moment = told_moments old new (IsClosed place base) (IsLeft base (doubts ++ changes ∷ [])) (place + 1) count is.1 moments (λ was left p torn. closed_left place base (doubts ++ changes ∷ []) left (torn_behind place count base was left p torn));
+    acknowledged = tt;
     ok = tt;
     err = (is.0, always_from old new (IsClosed place base) (IsClosed place base) (Torn (place + 1) count) is.1 tells stays crash (λ was left p torn. torn_behind place count base was left p torn));
   }
@@ -191,6 +213,7 @@ module _ (old : DiskState) (place : ℕ) (base doubts : List Commit) (changes : 
       pub not_opened : {E : Type 0} (why : E) → is_some new.contents ≡ is_some mid.contents → MayStay new → Follows (Torn place 1) mid.may_leave new.may_leave → Commits old new (Unsure place) base doubts changes (Err why)
       not_opened why tells stays crash = record {
         any_moment = all_moments;
+        acknowledged = tt;
         ok = tt;
         err = (is.0, always_from mid new Staged (IsUnsure place base (doubts ++ changes ∷ [])) (Torn place 1) staged tells stays crash (λ was left p torn. inr (changes, mem_last changes doubts, other_gate place base changes was left p.0 torn)));
       }
@@ -201,10 +224,13 @@ module _ (old : DiskState) (place : ℕ) (base doubts : List Commit) (changes : 
           let opens : (file : List ℕ) → Staged file → IsClosed (place + length block) (base ++ changes ∷ []) (patched place (1 ∷ []) file) = λ file doubt.
           let open_at = open_doubt place base changes file (patched place (1 ∷ []) file) doubt.0 (gate_written place 1 base changes file doubt.0) in
           (open_at.0, open_at.1 ∙ behind doubt.0.body doubt.1) in
+          let stands : Stands new (Closed (place + length block)) (base ++ changes ∷ []) [] =
+          (omega (arith, limit), always_written mid new Staged (IsClosed (place + length block) (base ++ changes ∷ [])) place (1 ∷ []) staged open_written open_durable opens) in
           subst (λ (n : ℕ). Commits {E = E} old new (Closed n) base doubts changes (Ok tt)) (sym next_is) (
           record {
             any_moment = all_moments;
-            ok = (omega (arith, limit), always_written mid new Staged (IsClosed (place + length block) (base ++ changes ∷ [])) place (1 ∷ []) staged open_written open_durable opens);
+            acknowledged = stands_alone new (Closed (place + length block)) (base ++ changes ∷ []) stands;
+            ok = stands;
             err = tt;
           })
         where
@@ -217,6 +243,7 @@ module _ (old : DiskState) (place : ℕ) (base doubts : List Commit) (changes : 
 pub not_begun : {E : Type 0} (old new : DiskState) (gate : Gate) (base doubts : List Commit) (changes : Commit) (why : E) → StandsOn old new gate base doubts → Commits old new gate base doubts changes (Err why)
 not_begun old new gate base doubts changes why is = record {
   any_moment = told_weaker old new (IsLeft base doubts) (IsLeft base (doubts ++ changes ∷ [])) (left_more base doubts (changes ∷ [])) is.any_moment;
+  acknowledged = tt;
   ok = tt;
   err = stands_more new gate base doubts (changes ∷ []) is.stands;
 }
@@ -226,6 +253,7 @@ pub mended_then : {E : Type 0} (old mid new : DiskState) (before gate : Gate) (b
 mended_then old mid new before gate base doubts changes result tells is then = record {
   any_moment = told_joined old mid new (IsLeft base (doubts ++ changes ∷ [])) tells
       (told_weaker old mid (IsLeft base doubts) (IsLeft base (doubts ++ changes ∷ [])) (left_more base doubts (changes ∷ [])) is.any_moment) then.any_moment;
+  acknowledged = then.acknowledged;
   ok = then.ok;
   err = then.err;
 }

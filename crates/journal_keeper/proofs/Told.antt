@@ -1,20 +1,19 @@
 -- What a journal stands for, before and after a load, and what it tells.
-use Rattle.std.proofs.Common.{◌≡◌, ◌⊎◌, inl, inr, ⊎_elim, ℕ, ◌+◌, ◌≤◌, ◌<◌, max, Bool, true, false, List, [], ◌∷◌, ◌++◌, length, drop, Option, Some, None, IfSome, IfOk, Result, Ok, Err, OnOk, OnErr, refl, sym, ap, subst, ◌∙◌, arith, length-append}
+use Rattle.std.proofs.Common.{◌≡◌, inl, inr, ℕ, List, [], ◌∷◌, ◌++◌, Option, Some, None, IfSome, IfOk, Result, Ok, Err, OnOk, OnErr, refl, sym, ap, subst, ◌∙◌}
 use Rattle.std.specs.Prelude.{is_some, option_map}
-use Rattle.std.proofs.lemmas.List.{drop_all}
 use Rattle.record_keeper.specs.Entries.{after_changes}
 use Rattle.size_values.specs.declared.entry.Entry.{Entry}
-use Rattle.disk_model.specs.Disk.{DiskState, LeavesOnly, Torn, Only, MayStay, WritesNothing, patched, disk_limit, Follows}
-use Rattle.journal_keeper.specs.Texts.{Commit, ◌>>=◌}
-use Rattle.journal_keeper.specs.Chain.{HasCommits, AreRecords, Chain, chain_of, rows_of}
-use Rattle.journal_keeper.specs.Keeping.{IsLeft, IsClosed, IsUnsure, HasAlways, Stands, IsSound, LeavesTold, TornFrom, mended, IsMended, IsSettled, first_gate, read_gate, StandsOn, Commits, Loads, LeavesChain, IsLoadOf, IsLoaded, read_as, entries_told}
+use Rattle.disk_model.specs.Disk.{DiskState, LeavesOnly, WritesNothing, patched}
+use Rattle.journal_keeper.specs.Texts.{Commit}
+use Rattle.journal_keeper.specs.Chain.{Chain, chain_of, rows_of}
+use Rattle.journal_keeper.specs.Keeping.{IsLeft, IsClosed, IsUnsure, HasAlways, Stands, IsSound, LeavesTold, StandsOn, Commits, Loads, LeavesChain, IsLoaded, read_as, entries_told}
 use Rattle.journal_keeper.specs.declared.gate.Gate.{Gate}
 use Rattle.journal_keeper.specs.declared.gate.Gate.TheVariants.{Unread, Closed, Unsure}
 use Rattle.journal_keeper.proofs.ReadChain.{chain_read}
 use Rattle.journal_keeper.proofs.Prefix.{rows_push}
-use Rattle.journal_keeper.proofs.Moments.{started, joined, weaker, still}
-use Rattle.journal_keeper.proofs.Torn.{closed_long, unsure_left, unsure_shut}
-use Rattle.journal_keeper.proofs.Standing.{always_from, told_joined, told_weaker, told_moments, stands_sound, mended_sound, sound_for, SoundFor}
+use Rattle.journal_keeper.proofs.Moments.{started, still}
+use Rattle.journal_keeper.proofs.Torn.{unsure_left, unsure_shut}
+use Rattle.journal_keeper.proofs.Standing.{always_from, told_joined, stands_sound, mended_sound, sound_for, SoundFor}
 
 pub some_is : {A : Type 0} (x y : A) → Some x ≡ Some y → x ≡ y
 some_is x y e = cc

@@ -1,11 +1,11 @@
 -- What a crash leaves of a file while a record is written behind a closed gate, and while a gate is written.
-use Rattle.std.proofs.Common.{◌≡◌, ◌≢◌, ◌⊎◌, inl, inr, ⊎_elim, ℕ, zero, suc, ◌+◌, ◌-◌, ◌<◌, ◌≤◌, max, List, [], ◌∷◌, ◌++◌, length, take, drop, get_or, refl, sym, ap, subst, ◌∙◌, append_assoc, arith, length-append, length-take, length-take-le, length-drop, take-append-drop}
+use Rattle.std.proofs.Common.{◌≡◌, ◌≢◌, inl, inr, ℕ, ◌+◌, ◌≤◌, List, [], ◌∷◌, ◌++◌, length, take, drop, get_or, refl, sym, ap, subst, ◌∙◌, append_assoc, arith, length-append, take-append-drop}
 use Rattle.std.proofs.lemmas.Bool.{cases_eq}
-use Rattle.std.proofs.lemmas.List.{take_at, drop_at, append-nil, take-append-le, drop_more, drop_all, take_all, take-take}
+use Rattle.std.proofs.lemmas.List.{take_at, drop_at, append-nil, drop_more, drop_all}
 use Rattle.plain_lists.specs.Members.{Mem}
 use Rattle.disk_model.specs.Disk.{Torn, patched}
 use Rattle.journal_keeper.specs.Texts.{Commit}
-use Rattle.journal_keeper.specs.Chain.{IsRecord, AreRecords, HasCommits, Chain}
+use Rattle.journal_keeper.specs.Chain.{IsRecord, AreRecords}
 use Rattle.journal_keeper.specs.Keeping.{IsLeft, IsClosed, HasDoubt, IsUnsure}
 
 -- records of some commits, and then one of one commit more

@@ -4,7 +4,7 @@ use Rattle.std.specs.Prelude.{Option, Some, None, option_map, if◌then◌else�
 use Rattle.std.specs.Int.{w64, from_be_bytes, to_be_bytes}
 use Rattle.record_keeper.specs.Entries.{after_changes}
 use Rattle.size_values.specs.declared.entry.Entry.{Entry}
-use Rattle.journal_keeper.specs.Texts.{Commit, Read, ◌>>=◌, commit_text, commit_of}
+use Rattle.journal_keeper.specs.Texts.{Commit, Read, ◌>>=◌, commit_of}
 
 -- An open record of a commit: its gate, which is 1, the length of its text in eight bytes, highest first, and the text.
 pub record IsRecord (bytes : List ℕ) (commit : Commit) : Type 0 where

@@ -1,8 +1,7 @@
 -- What a journal keeper does to its disk, and what a crash leaves of it.
-use Rattle.std.specs.Prelude.{◌≡◌, ◌≢◌, ◌⊎◌, ℕ, ◌+◌, ◌<◌, ◌≤◌, ◌^◌, min, Bool, true, false, ◌&&◌, List, [], ◌∷◌, ◌++◌, length, map}
+use Rattle.std.specs.Prelude.{◌≡◌, ◌≢◌, ◌⊎◌, ℕ, ◌+◌, ◌<◌, ◌≤◌, min, Bool, true, false, ◌&&◌, List, [], ◌∷◌, ◌++◌, length}
 use Rattle.std.specs.Prelude.{Option, Some, None, IfSome, Result, Ok, Err, OnOk, OnErr, IfOk, option_map}
 use Rattle.plain_lists.specs.Members.{Mem}
-use Rattle.record_keeper.specs.Store.{Store}
 use Rattle.size_values.specs.CallCounts.{CountsFailure}
 use Rattle.size_values.specs.Calls.{last_number}
 use Rattle.size_values.specs.declared.entry.Entry.{Entry}
@@ -89,6 +88,10 @@ abbrev pub IsSeen : {X Y : Type 0} → (X → Y) → Option X → Option Y → T
 IsSeen view (Some value) read = read ≡ Some (view value)
 IsSeen view None read = read ≡ None
 
+-- where the disk tells its contents, a crash now leaves bytes that have the property
+abbrev pub LeavesNow : DiskState → (List ℕ → Type 0) → Type 0
+LeavesNow disk P = IfSome disk.contents (λ _. (left : List ℕ) → disk.may_leave left → P left)
+
 -- what a crash may leave of a write of so many bytes to the disk
 abbrev pub TornFrom : ℕ → ℕ → DiskState → List ℕ → Type 0
 TornFrom place count disk left = (was : List ℕ) × disk.may_leave was × Torn place count was left
@@ -138,6 +141,7 @@ IsLoaded (Unsure place) = Unit {0}
 -- one commit that was in doubt or is this one. Once it is answered Ok every crash leaves the base and this commit.
 pub record Commits {E : Type 0} (old new : DiskState) (gate : Gate) (base doubts : List Commit) (changes : Commit) (result : Result (Unit {0}) E) : Type 0 where
   pub any_moment : LeavesTold old new (IsLeft base (doubts ++ changes ∷ []))
+  pub acknowledged : OnOk result (LeavesNow new (λ left. Chain left (base ++ changes ∷ [])))
   pub ok : OnOk result (Stands new gate (base ++ changes ∷ []) [])
   pub err : OnErr result (Stands new gate base (doubts ++ changes ∷ []))
 

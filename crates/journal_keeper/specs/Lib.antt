@@ -1,3 +1,4 @@
 pub mod Texts
 pub mod Chain
 pub mod Keeping
+pub mod History

@@ -1,4 +1,4 @@
-ghost use Rattle.std.specs.Prelude.{◌≡◌, List, None, false, option_map, IfOk, OnOk};
+ghost use Rattle.std.specs.Prelude.{◌≡◌, List, None, false, option_map, is_some, IfOk, OnOk};
 ghost use Rattle.std.specs.Prelude.{OnErr, IfSome};
 ghost use Rattle.record_keeper.specs.Entries.{IsOrderedEntries, after_changes};
 ghost use Rattle.size_values.specs.CallCounts.{CountsFailure, called};
@@ -99,6 +99,7 @@ impl<D: Disk> Keeper for JournalKeeper<D> {
         ensures failures { CountsFailure (faults_of (D.disk self.old.disk).failures self.old.bad_loads self.old.refused)
             (faults_of (D.disk self.new.disk).failures self.new.bad_loads self.new.refused) result }
         ensures loads { Loads (D.disk self.old.disk) (D.disk self.new.disk) self.old.gate self.new.gate result }
+        ensures tells { is_some (D.disk self.new.disk).contents ≡ is_some (D.disk self.old.disk).contents }
         ensures refused { self.new.refused ≡ self.old.refused }
         ensures bad { CountsBad (D.disk self.new.disk).contents self.old.bad_loads self.new.bad_loads self.new.bad_record result }
     {
@@ -125,6 +126,7 @@ impl<D: Disk> Keeper for JournalKeeper<D> {
         ensures commits { (base : List Commit) (doubts : List Commit)
             → Stands (D.disk self.old.disk) self.old.gate base doubts
             → Commits (D.disk self.old.disk) (D.disk self.new.disk) self.new.gate base doubts changes.now result }
+        ensures tells { is_some (D.disk self.new.disk).contents ≡ is_some (D.disk self.old.disk).contents }
         ensures taken { IsTaken self.old.gate changes.now self.old.refused self.new.refused result }
         ensures untouched { is_taken self.old.gate changes.now ≡ false → self.new.disk ≡ self.old.disk }
         ensures bad { (self.new.bad_loads ≡ self.old.bad_loads) × (self.new.bad_record ≡ self.old.bad_record) }

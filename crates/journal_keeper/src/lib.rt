@@ -6,11 +6,15 @@
 mod commits;
 mod device;
 mod gate;
+mod history;
 mod keeper;
+mod laws;
 mod loading;
 mod records;
 mod taking;
 mod texts;
 
 pub use gate::Gate;
+pub use history::commit_each;
 pub use keeper::JournalKeeper;
+pub use laws::{a_file_has_one_chain, a_text_is_read_as_its_commit};

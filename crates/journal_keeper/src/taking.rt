@@ -1,6 +1,6 @@
 //! A commit is taken where a load has succeeded and its changes can be written. Any other is refused without a call of
 //! the disk, and is counted.
-ghost use Rattle.std.specs.Prelude.{◌≡◌, ℕ, List, false, option_map, OnOk, OnErr};
+ghost use Rattle.std.specs.Prelude.{◌≡◌, ℕ, List, false, option_map, is_some, OnOk, OnErr};
 ghost use Rattle.record_keeper.specs.Entries.{after_changes};
 ghost use Rattle.size_values.specs.CallCounts.{CountsFailure};
 ghost use Rattle.journal_keeper.specs.Texts.{Commit};
@@ -49,6 +49,7 @@ pub fn take_commit<D: Disk>(
     ensures err { OnErr result (entries_told gate.new (D.disk disk.new).contents
         ≡ entries_told gate.old (D.disk disk.old).contents) }
     ensures sound { IsSound (D.disk disk.new) gate.new }
+    ensures tells { is_some (D.disk disk.new).contents ≡ is_some (D.disk disk.old).contents }
     ensures failures { (bad_loads : ℕ) → CountsFailure (faults_of (D.disk disk.old).failures bad_loads refused.old)
         (faults_of (D.disk disk.new).failures bad_loads refused.new) result }
 {

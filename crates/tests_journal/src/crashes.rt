@@ -1,7 +1,8 @@
 //! Crashes after each call of a disk of which each call fails in turn, each by every pick.
-use crate::rows::{KEYS, LAB, bit_of, commits, disk, loads, rows_after_crash};
+use crate::rows::{KEYS, LAB, bit_of, commits, disk, loads, put, rows_after_crash};
 use disk_model::MemoryDisk;
-use journal_keeper::JournalKeeper;
+use journal_keeper::{JournalKeeper, commit_each};
+use size_values::{EntryChange, Seq};
 use std::alloc::Global;
 use std::test::Fail;
 
@@ -115,5 +116,45 @@ fn refuses_before_a_load(alloc: Global) -> bool {
 #[test]
 fn a_commit_waits_for_a_load(rt: HostRuntime) -> Result<(), Fail> {
     assert!(rt; refuses_before_a_load(rt.alloc()), "no call of the disk");
+    Ok(())
+}
+
+/// Whether two commits, of which the gate of the first fails, leave the second alone.
+fn second_alone(alloc: Global) -> bool {
+    let Some(disk) = disk(alloc, &[8]) else {
+        return false;
+    };
+    let mut keeper = JournalKeeper::over(alloc, disk);
+    let Some(commits) = two_commits(alloc) else {
+        return false;
+    };
+    let mut answers = [false; 2];
+    let loaded = loads(&mut keeper);
+    commit_each(&mut keeper, commits.view(), &mut answers);
+    let alone = leaves_only(alloc, keeper.disk(), 2, 0);
+    drop(keeper);
+    drop(commits);
+    loaded && alone && !answers[0] && answers[1]
+}
+
+/// A commit of the first row, and one of the second.
+fn two_commits(alloc: Global) -> Option<Seq<Seq<EntryChange>>> {
+    let mut commits = Seq::new(alloc);
+    for key in ["a", "b"] {
+        match put(alloc, key, b"1") {
+            Ok(changes) => {
+                if commits.push(changes).is_err() {
+                    return None;
+                }
+            }
+            Err(_) => return None,
+        }
+    }
+    Some(commits)
+}
+
+#[test]
+fn commits_are_made_one_after_the_other(rt: HostRuntime) -> Result<(), Fail> {
+    assert!(rt; second_alone(rt.alloc()), "the second commit");
     Ok(())
 }

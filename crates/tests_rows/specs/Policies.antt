@@ -253,10 +253,14 @@ access = entry "restricted" "1" ∷ entry "restricted.networks.access" "br0" ∷
 abbrev pub unrestricted : Settings
 unrestricted = entry "restricted" "0" ∷ entry "restricted.networks.access" "br0" ∷ []
 
+-- settings of which each breaks a rule of its own
+abbrev pub all_three : Settings
+all_three = entry "raw.lxc" "x" ∷ entry "security.nesting" "1" ∷ entry "security.privileged" "1" ∷ []
+
 -- a project and the settings of a container, and what is forbidden first
 abbrev pub lowest : List (Settings × Settings × Option Forbidden)
 lowest =
-    (restricted, entry "raw.lxc" "x" ∷ entry "security.nesting" "1" ∷ entry "security.privileged" "1" ∷ [], forbidden 1 1)
+    (restricted, all_three, forbidden 1 1)
     ∷ (restricted, entry "raw.lxc" "x" ∷ entry "raw.seccomp" "x" ∷ [], forbidden 3 0)
     ∷ (isolated, entry "raw.lxc" "x" ∷ entry "user.a" "x" ∷ [], forbidden 2 2)
     ∷ (isolated, entry "raw.lxc" "x" ∷ entry "security.privileged" "1" ∷ [], forbidden 2 1)

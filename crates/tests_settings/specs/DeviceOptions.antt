@@ -185,7 +185,7 @@ faults =
 -- devices, the first fault and its place
 abbrev pub first_faults : List (NamedDevices × Option SettingFault)
 first_faults = (
-  (codes "a", settings (entry "type" "gpu" ∷ [])) ∷ (codes "b", settings (entry "type" "nic" ∷ [])) ∷ (codes "c", []) ∷ [],
+  (codes "a", entry "type" "gpu" ∷ []) ∷ (codes "b", entry "type" "nic" ∷ []) ∷ (codes "c", []) ∷ [],
   Some (setting.Device 1 fault.NicSource),
 )
     ∷ (
@@ -201,5 +201,6 @@ pub record DeviceOptionsHold : Type 0 where
   pub bad : Agree (λ row. map (λ option. says row.0 option.0 option.2) (with_bad row.1))
       (λ row. map (λ option. refused) (with_bad row.1)) device_options
   pub foreign : Agree (λ row. says row.0 (codes "zzz") (codes "x")) (λ row. unknown) device_options
-  pub alone : Agree (λ row. devices_fault ((row.0, settings row.1) ∷ [])) (λ row. option_map (setting.Device 0) row.2) faults
+  pub alone : Agree (λ row. devices_fault ((row.0, settings row.1) ∷ []))
+      (λ row. option_map (setting.Device 0) row.2) faults
   pub first : Gives (λ rows. devices_fault (devices rows)) first_faults

@@ -1,7 +1,7 @@
 -- Which key takes which value, of instances and of objects, and the first fault of settings.
 use Prim.Native.String.{String}
-use Rattle.std.specs.Prelude.{ℕ, zero, ◌==◌, Bool, true, false, not, List, [], ◌∷◌, ◌++◌, map, length, replicate, filter}
-use Rattle.std.specs.Prelude.{Option, Some, None, codes}
+use Rattle.std.specs.Prelude.{ℕ, zero, ◌==◌, Bool, true, false, not, List, [], ◌∷◌, ◌++◌, map, length, replicate}
+use Rattle.std.specs.Prelude.{filter, Option, Some, None, codes}
 use Rattle.config_lists.specs.Settings.{Settings}
 use Rattle.size_values.specs.declared.fault.ValueFault.TheVariants as value
 use Rattle.option_tables.specs.Checks.{instance_fault, project_fault, network_fault, pool_fault, volume_fault}

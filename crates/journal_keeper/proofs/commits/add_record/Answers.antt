@@ -1,7 +1,6 @@
-use Rattle.std.proofs.Common.{◌≡◌, ◌+◌, ◌≤◌, ◌∙◌, ℕ, List, length, sym, subst, ap}
+use Rattle.std.proofs.Common.{◌+◌, ◌≤◌, ◌∙◌, ℕ, List, length, sym, subst, ap}
 use Rattle.std.proofs.lemmas.Result.{err_from_is_err_and}
-use Rattle.journal_keeper.specs.Keeping.{IsClosed, IsBlock, Commits}
-use Rattle.journal_keeper.specs.declared.gate.Gate.TheVariants.{Closed}
+use Rattle.journal_keeper.specs.Keeping.{IsClosed, IsBlock}
 use Rattle.journal_keeper.proofs.Torn.{closed_long}
 use Rattle.journal_keeper.proofs.Standing.{always_now, not_staged, staged_long, not_opened, opened_gate}
 use Rattle.journal_keeper.proofs.commits.add_record.Goals as goal

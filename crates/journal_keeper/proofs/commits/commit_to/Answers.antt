@@ -1,8 +1,7 @@
 use Rattle.std.proofs.Common.{subst}
 use Rattle.std.proofs.lemmas.Result.{err_from_is_err_and}
-use Rattle.journal_keeper.specs.Keeping.{Stands, StandsOn, IsSound}
+use Rattle.journal_keeper.specs.Keeping.{Stands, IsSound}
 use Rattle.journal_keeper.specs.declared.gate.Gate.{Gate}
-use Rattle.journal_keeper.specs.declared.gate.Gate.TheVariants.{Closed}
 use Rattle.journal_keeper.proofs.Standing.{stands_sound, sound_for, not_begun, mended_then}
 use Rattle.journal_keeper.proofs.commits.commit_to.Goals as goal
 

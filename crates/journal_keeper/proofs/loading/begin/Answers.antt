@@ -1,4 +1,4 @@
-use Rattle.std.proofs.Common.{List, [], sym, subst}
+use Rattle.std.proofs.Common.{List, sym, subst}
 use Rattle.record_keeper.specs.Entries.{IsOrderedEntries}
 use Rattle.size_values.specs.declared.entry.Entry.{Entry}
 use Rattle.std.proofs.lemmas.Result.{err_from_is_err_and}

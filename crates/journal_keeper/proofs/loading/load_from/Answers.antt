@@ -1,7 +1,6 @@
-use Rattle.std.proofs.Common.{◌≡◌, ◌∙◌, sym, ap}
+use Rattle.std.proofs.Common.{◌∙◌, sym, ap}
 use Rattle.std.proofs.lemmas.Result.{err_from_is_err_and}
 use Rattle.journal_keeper.specs.Keeping.{mended}
-use Rattle.journal_keeper.specs.declared.gate.Gate.TheVariants.{Unread}
 use Rattle.journal_keeper.proofs.Standing.{mended_sound}
 use Rattle.journal_keeper.proofs.Told.{mend_then, mend_loads}
 use Rattle.journal_keeper.proofs.loading.load_from.Goals as goal

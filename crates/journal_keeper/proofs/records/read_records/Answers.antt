@@ -1,4 +1,3 @@
-use Rattle.std.proofs.Common.{rules}
 use Rattle.journal_keeper.proofs.Prefix.{nothing_read, one_read, shorter, all_read, bad_read}
 use Rattle.journal_keeper.proofs.records.read_records.Goals as goal
 

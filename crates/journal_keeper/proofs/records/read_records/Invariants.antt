@@ -1,4 +1,4 @@
-use Rattle.std.proofs.Common.{◌≡◌, List, ℕ, [], length}
+use Rattle.std.proofs.Common.{◌≡◌, [], length}
 use Rattle.journal_keeper.specs.Keeping.{ReadsTo}
 use Rattle.journal_keeper.proofs.records.read_records.Given as goal
 

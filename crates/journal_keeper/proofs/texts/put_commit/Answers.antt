@@ -1,6 +1,6 @@
 use Rattle.std.proofs.Common.{arith}
 use Rattle.journal_keeper.specs.Texts.{change_bytes, commit_text, IsTypedChange}
-use Rattle.journal_keeper.proofs.Written.{all_bytes, all_typed, begins, one_more, each_true, both_true}
+use Rattle.journal_keeper.proofs.Written.{all_bytes}
 use Rattle.journal_keeper.proofs.texts.put_commit.Goals as goal
 
 pub returns-clause-bytes : goal.returns-clause-bytes

@@ -1,4 +1,4 @@
-use Rattle.std.proofs.Common.{List, IfOk, IfSome, ◌≡◌, subst}
+use Rattle.std.proofs.Common.{IfOk, IfSome, ◌≡◌, subst}
 use Rattle.journal_keeper.specs.Keeping.{JournalState, entries_told}
 use Rattle.journal_keeper.proofs.Told.{loads_found}
 use Rattle.journal_keeper.proofs.keeper.JournalKeeperKeeper.load.Goals as goal
