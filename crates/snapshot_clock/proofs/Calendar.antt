@@ -1,10 +1,10 @@
 -- The dates of jiff are those of the plain calendar.
-use Rattle.std.proofs.Common.{◌≡◌, ℕ, zero, suc, ◌+◌, ◌-◌, ◌*◌, ◌/◌, ◌%◌, ◌<◌, ◌≤◌, min, nat_lt, Bool, true, false, if◌then◌else◌, ℤ, pos, ◌+ℤ◌, ◌*ℤ◌, Option, Some, None, refl, sym, ap, ◌∙◌, arith, rules}
+use Rattle.std.proofs.Common.{◌≡◌, ℕ, zero, suc, ◌+◌, ◌-◌, ◌*◌, ◌/◌, ◌%◌, ◌<◌, ◌≤◌, min, nat_lt, Bool, true, false, if◌then◌else◌, ℤ, pos, ◌+ℤ◌, ◌*ℤ◌, Some, None, refl, sym, ap, ◌∙◌, arith, rules}
 use Rattle.std.proofs.lemmas.Bool.Decides.{nat_tests}
 use Rattle.jiff_core.specs.declared.civil.date.Date.{Date as Civil}
 use Rattle.jiff_core.specs.declared.span.Span.{Span}
 use Rattle.jiff_core.specs.declared.unit.Unit.TheVariants.{Day, Month, Hour, Minute, Second, Millisecond, Microsecond, Nanosecond}
-use Rattle.jiff_core.specs.Calendar.{day_count, days_in_month, days_from_civil, weekday_number, IsYear, IsEpochDay}
+use Rattle.jiff_core.specs.Calendar.{day_count, days_in_month, days_from_civil, weekday_number, IsEpochDay}
 use Rattle.jiff_core.specs.Calendar.{days_of_months as civil_months}
 use Rattle.jiff_core.specs.Sign.{signed}
 use Rattle.jiff_core.specs.Span.{span_months, span_days, clock_days}
@@ -13,8 +13,8 @@ use Rattle.jiff.specs.Words.{IsOnly, date_add, add_months, month_number, shifted
 use Rattle.jiff.proofs.SpanFacts.{date_add-days}
 use Rattle.jiff_core.proofs.SignedLemmas.{signed_arith}
 use Rattle.jiff_core.proofs.CalendarLemmas.{day_count-epoch, days_from_civil-day_count, day_count-day_of_year, day_count-next_year, day_count-later_year, day_count-end, weekday_number-parts}
-use Rattle.jiff_core.proofs.DateLemmas.{civil, epoch_day_range, epoch_day_injective}
-use Rattle.schedule_texts.specs.Calendar.{Date, IsDate, year_length, month_length, days_of_years, days_of_months, day_of, date_of, months_later, month_number as month_number_of}
+use Rattle.jiff_core.proofs.DateLemmas.{epoch_day_range, epoch_day_injective}
+use Rattle.schedule_texts.specs.Calendar.{Date, IsDate, month_length, days_of_years, days_of_months, day_of, date_of, months_later, month_number as month_number_of}
 use Rattle.size_values.specs.Moments.{moment_limit}
 use Rattle.size_values.specs.declared.expiry.Expiry.{Expiry}
 use Rattle.schedule_texts.specs.Expires.{later_day, months_in, seconds_in, end_of, expires_at}

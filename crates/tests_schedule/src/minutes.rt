@@ -71,10 +71,10 @@ fn count_of_2024(text: &str) -> u64 {
     let Ok(schedule) = read_schedule(text) else {
         return 0;
     };
-    let mut count = 0;
+    let mut count: u64 = 0;
     for place in 0..MINUTES_OF_2024 {
         if matches(&schedule, START_OF_2024 + place * 60) {
-            count += 1;
+            count = count.saturating_add(1);
         }
     }
     count

@@ -1,4 +1,4 @@
-use Rattle.std.proofs.Common.{◌≡◌, ℕ, ◌+◌, ◌/◌, ◌%◌, ◌<◌, pos, arith, ap, ◌∙◌, w8}
+use Rattle.std.proofs.Common.{◌≡◌, ℕ, ◌+◌, ◌/◌, ◌%◌, arith, ap, ◌∙◌, w8}
 use Rattle.std.specs.Prelude.{unsigned_abs}
 use Rattle.jiff_core.proofs.SignedLemmas.{signed_arith, back_small}
 use Rattle.jiff_core.proofs.CalendarLemmas.{days_in_month_bounds}
