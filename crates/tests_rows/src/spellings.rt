@@ -1,8 +1,10 @@
 //! Rows of each kind, read from entries and written as entries: bodies are written out byte by byte.
 use crate::given::text_of;
 use records::Row;
-use row_codec::{decode, encode, instance_size, key_of, kind_of, profile_size, project_size};
-use size_values::{Entry, NoMemory, Seq};
+use row_codec::{
+    Damaged, decode, encode, instance_size, key_of, kind_of, profile_size, project_size,
+};
+use size_values::{Entry, NoMemory, Or, Seq};
 use std::alloc::Global;
 
 // The pieces of which bodies are made: each is one byte, number, text or count.
@@ -188,5 +190,33 @@ fn is_spelling(alloc: Global, kind: u8, key: &str, pieces: &[&[u8]]) -> bool {
 fn rows_of_each_kind(rt: HostRuntime) {
     for (kind, key, pieces) in SPELLINGS {
         assert!(rt; is_spelling(rt.alloc(), *kind, key, pieces), "{key}");
+    }
+}
+
+/// Entries of no row: a kind, a key, and what is damaged. Their bodies are empty.
+const DAMAGED: &[(u8, &str, Damaged)] = &[
+    (9, "lab", Damaged::Kind),
+    (2, "lab", Damaged::Key),
+    (1, "lab", Damaged::Body(0)),
+];
+
+/// Whether the damage is told, and not that memory was refused.
+fn is_damaged(alloc: Global, kind: u8, key: &str, damaged: Damaged) -> bool {
+    let entry = entry_of(alloc, kind, key, &[]);
+    let read = decode(alloc, &entry);
+    drop(entry);
+    match read {
+        Ok(row) => {
+            drop(row);
+            false
+        }
+        Err(why) => why == Or::Why(damaged),
+    }
+}
+
+#[test]
+fn damage_is_told(rt: HostRuntime) {
+    for (kind, key, damaged) in DAMAGED {
+        assert!(rt; is_damaged(rt.alloc(), *kind, key, *damaged), "{kind}");
     }
 }
