@@ -130,7 +130,11 @@ fn second_alone(alloc: Global) -> bool {
     };
     let mut answers = [false; 2];
     let loaded = loads(&mut keeper);
-    commit_each(&mut keeper, commits.view(), &mut answers);
+    let view = commits.view();
+    if view.len() != answers.len() {
+        return false;
+    }
+    commit_each(&mut keeper, view, &mut answers);
     let alone = leaves_only(alloc, keeper.disk(), 2, 0);
     drop(keeper);
     drop(commits);

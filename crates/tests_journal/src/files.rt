@@ -67,6 +67,7 @@ fn refuses(rt: &HostRuntime, path: &str, bytes: &[u8], why: FileRefused) -> bool
 
 #[test]
 fn a_foreign_file_is_refused(rt: HostRuntime) -> Result<(), Fail> {
+    let _missing = fs::remove_dir_all(&rt, "foreign");
     assert!(rt; fs::create_dir(&rt, "foreign").is_ok(), "a folder");
     assert!(rt;
         refuses(
