@@ -1,3 +1,4 @@
+pub mod Computed
 pub mod Dates
 pub mod Meanings
 pub mod Named

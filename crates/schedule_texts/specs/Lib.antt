@@ -7,3 +7,4 @@ pub mod Schedules
 pub mod Calendar
 pub mod Matches
 pub mod Expires
+pub mod Worked

@@ -13,7 +13,7 @@ mod schedule;
 
 pub use aliases::AliasSet;
 pub use fields::FieldSets;
-pub use laws::{days_have_dates, fields_have_the_numbers_of_their_parts};
+pub use laws::{dates_by_example, days_have_dates, fields_have_the_numbers_of_their_parts};
 pub use minute::CivilMinute;
 pub use numbers::NumberSet;
 pub use schedule::{Schedule, read_schedule};
