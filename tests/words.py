@@ -29,7 +29,7 @@ TOP = Path(__file__).resolve().parent.parent
 REQUEST = b'POST /1.0/projects HTTP/1.1\r\nHost: localhost\r\nContent-Length: 14\r\n\r\n{"name":"lab"}'
 COMMANDS = ("run [", "make SEED COUNT", "drill SEED COUNT", "check [")
 NOT_READ = [
-    [], ["help"], ["--help"], ["-h"], ["--version"], ["runs"], ["run", "run"], ["run", "--"], ["run", "--steps", "x"], ["run", "--now"],
+    [], ["help"], ["-h"], ["--help", "run"], ["run", "--help"], ["runs"], ["run", "run"], ["run", "--"], ["run", "--steps", "x"], ["run", "--now"],
     ["run", "--now", "1", "--now=1"], ["run", "-s", "1"], ["run", "--now", "-1"], ["run", "--fail-host=0"], ["run", "--steps=01"],
     ["run", "--db=rows", "--fail-keeper=1"], ["make"], ["make", "7"], ["make", "7", "10001"], ["make", "+7", "40"],
     ["drill", "7", "40", "--now=1"], ["drill", "7", "40", "--db="], ["check", "--db"], ["check", "check"], ["--db=rows", "check"],
@@ -100,6 +100,13 @@ def not_read(program, folder):
         need(status == 8 and not written and all(each in said for each in COMMANDS), f"{words}: status {status}, {written}, {said}")
     need(not any(folder.iterdir()), f"files were made: {list(folder.iterdir())}")
     return f"{len(NOT_READ)} lists of words"
+
+
+def questions(program, _):
+    status, written, said = run(program, ["--help"])
+    need(status == 0 and all(each.encode() in written for each in COMMANDS) and not said, f"--help: status {status}, {written}, {said}")
+    need_run(program, ["--version"], b"incus_run 0.1.0\n")
+    return "status 0, and an answer on standard output"
 
 
 def make(program, _):

@@ -16,7 +16,7 @@ use crate::requests::drill_requests;
 use command_words::{run_help, setup_of};
 use host_model::ModelHost;
 use http_front::{Clock, ReaderSource, SystemClock, WriterSink};
-use program_start::{RowsKeeper, StartFault, fault_of, tell, tell_why, words_of};
+use program_start::{Question, RowsKeeper, StartFault, answer, fault_of, tell, tell_why, words_of};
 use serial_run::run_main;
 use size_values::Seq;
 use std::io::IsTerminal;
@@ -24,6 +24,9 @@ use std::process::ExitCode;
 
 /// The name of the program.
 const PROGRAM: &str = "incus_run";
+
+/// The line of `--version`.
+const VERSION: &str = "incus_run 0.1.0\n";
 
 /// How many requests are to be answered, where standard error is told how many of them are: those of a drill at a
 /// terminal. Where memory for the words is refused, nothing is told of them.
@@ -35,8 +38,13 @@ fn requests_to_tell(rt: HostRuntime, words: &[String]) -> Option<u64> {
     }
 }
 
-/// All that the program does. Standard error tells why the rows of a file were not opened.
+/// All that the program does: it answers a question, or does what the words say. Standard error tells why the rows of a
+/// file were not opened.
 fn run(rt: HostRuntime, words: &[String]) -> u8 {
+    if let Some(question) = Question::of(words) {
+        answer(rt, question, run_help(), VERSION);
+        return 0;
+    }
     let Ok(setup) = setup_of(rt.alloc(), words) else {
         return StartFault::NoMemory.status();
     };

@@ -11,12 +11,24 @@ mod threads;
 use crate::starting::serve;
 use crate::telling::tell_end;
 use command_words::serve_help;
-use program_start::{StartFault, fault_of, tell, words_of};
+use program_start::{Question, StartFault, answer, fault_of, tell, words_of};
 use std::process::ExitCode;
+
+/// The line of `--version`.
+const VERSION: &str = "incusd 0.1.0\n";
+
+/// Answers a question, and gives the exit status.
+fn answer_question(rt: HostRuntime, question: Question) -> u8 {
+    answer(rt, question, serve_help(), VERSION);
+    0
+}
 
 fn main(rt: HostRuntime) -> ExitCode {
     let status = match words_of(&rt) {
-        Ok(words) => serve(rt, rt, &words),
+        Ok(words) => match Question::of(&words) {
+            Some(question) => answer_question(rt, question),
+            None => serve(rt, rt, &words),
+        },
         Err(error) => fault_of(&error).status(),
     };
     if status == StartFault::Words.status() {

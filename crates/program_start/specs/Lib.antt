@@ -1,3 +1,4 @@
 -- The libraries whose words crates above name through this one.
 pub use Rattle.start_faults as start_faults
+pub mod Questions
 pub mod RowsKeepers

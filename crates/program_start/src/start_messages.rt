@@ -11,6 +11,12 @@ pub fn tell(rt: HostRuntime, text: &str) {
     let _told = errors.write(text.as_bytes());
 }
 
+/// Writes a text on standard output.
+pub(crate) fn print(rt: HostRuntime, text: &str) {
+    let mut output = WriterSink::new(rt.stdout());
+    let _told = output.write(text.as_bytes());
+}
+
 /// Writes a line on standard error, if there is one.
 pub fn tell_line(rt: HostRuntime, line: Result<String, NoMemory>) {
     if let Ok(line) = line {
