@@ -191,7 +191,7 @@ def main():
         sys.exit(f"there is no program {program}: bin/incus_run --prove makes it")
     wrong = 0
     with tempfile.TemporaryDirectory() as folder:
-        checks = {"not read": not_read, "make": make, "drill, check": drill, "run": two_runs, "terminal": terminal}
+        checks = {"not read": not_read, "questions": questions, "make": make, "drill, check": drill, "run": two_runs, "terminal": terminal}
         for name, check in checks.items():
             try:
                 print(f"{name}: {check(program, Path(folder))}", flush=True)
