@@ -7,6 +7,7 @@ mod listening;
 mod starting;
 mod telling;
 mod threads;
+mod told_keeper;
 
 use crate::starting::serve;
 use crate::telling::tell_end;

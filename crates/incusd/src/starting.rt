@@ -4,6 +4,7 @@ ghost use Rattle.command_words.specs.ServeWords.{serve_setup_of};
 
 use crate::listening::{Listening, serve_over};
 use crate::telling::PROGRAM;
+use crate::told_keeper::ToldKeeper;
 use command_words::serve_setup_of;
 use program_start::{RowsKeeper, StartFault, tell_why};
 use size_values::{Seq, Text};
@@ -12,7 +13,8 @@ use std::sync::Wait;
 use std::thread::Threads;
 use std::time;
 
-/// The exit status of a server over the rows at this path. Standard error tells why they were not opened.
+/// The exit status of a server over the rows at this path. Standard error tells why they were not opened, and when they
+/// are not kept.
 fn serve_rows<T>(
     rt: HostRuntime,
     system: T,
@@ -25,11 +27,12 @@ where
     T: Copy + Drop + Send + Sync + 'static,
     requires { listening.tickets ≡ (serve_setup_of (map (λ w. string_bytes w) words.now)).tickets }
 {
-    let keeper = RowsKeeper::at(rt, path, Seq::new(rt.alloc()));
+    let keeper = ToldKeeper::over(rt, RowsKeeper::at(rt, path, Seq::new(rt.alloc())));
     let (status, back) = serve_over(rt, system, words, listening, keeper);
-    let Some(mut keeper) = back else {
+    let Some(keeper) = back else {
         return status;
     };
+    let mut keeper = keeper.into_keeper();
     tell_why(rt, PROGRAM, status, &mut keeper);
     drop(keeper);
     status

@@ -1,6 +1,6 @@
 use denote.Param.Send.{sendable}
-use Rattle.program_start.proofs.Sent.{rows_send}
+use Rattle.incusd.proofs.Sent.{told_send}
 use Rattle.incusd.proofs.starting.serve_rows.Goals as goal
 
 pub serve_over-status-requires-send-R : goal.serve_over-status-requires-send-R
-serve_over-status-requires-send-R g c κs within = search (sendable, rows_send) depth 9
+serve_over-status-requires-send-R g c κs within = search (sendable, told_send) depth 9
