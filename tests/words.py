@@ -6,11 +6,12 @@
 The program is crates/incus_run/out/incus_run without `--program` (`bin/incus_run --prove` makes it).
 
 1. `not read`: status 8, nothing on standard output, and all four commands on standard error.
-2. `make`: the bytes that `bench/stream.py instances` writes, which shares no code with the program.
-3. `drill`, `check`: 40 creations in memory and over a file, of which a project takes 32; what is kept of them, and that by then no share
+2. `questions`: `--help` and `--version` end with status 0.
+3. `make`: the bytes that `bench/stream.py instances` writes, which shares no code with the program.
+4. `drill`, `check`: 40 creations in memory and over a file, of which a project takes 32; what is kept of them, and that by then no share
    is held. The shell `sqlite3` reads each row of the file, where it is installed.
-4. `run`: two runs over one file; and a file in a folder that is missing, which ends with status 6.
-5. a terminal as standard error: a drill tells there how many of its requests are answered, where few of the creations become instances and
+5. `run`: two runs over one file; and a file in a folder that is missing, which ends with status 6.
+6. a terminal as standard error: a drill tells there how many of its requests are answered, where few of the creations become instances and
    where all of them do; standard output is what it is without one, and `make` and `run` tell nothing.
 
 It ends with status 1 where something is otherwise.
