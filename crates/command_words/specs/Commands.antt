@@ -22,8 +22,8 @@ abbrev pub required_option_of : List ℕ → Rule
 required_option_of name = record (option_of name) { required = true }
 
 -- a word that has to stand in its place, between the options
-abbrev pub place_of : List ℕ → Rule
-place_of name = record (new_rule name) { action = Some Set; required = true }
+abbrev pub positional_of : List ℕ → Rule
+positional_of name = record (new_rule name) { action = Some Set; required = true }
 
 -- a command with these options and places
 abbrev pub command_of : List ℕ → List Rule → Shape

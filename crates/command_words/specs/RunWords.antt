@@ -8,7 +8,7 @@ use Rattle.std.specs.Str.{bytes_eq}
 use Rattle.clap.specs.Simple.{new_shape}
 use Rattle.clap.specs.Words.{App, Row, Rule, Shape, first_of, subcommand_of}
 use Rattle.size_values.specs.Moments.{moment_limit}
-use Rattle.command_words.specs.Commands.{are_taken, command_of, option_of, place_of}
+use Rattle.command_words.specs.Commands.{are_taken, command_of, option_of, positional_of}
 use Rattle.command_words.specs.Values.{are_call_numbers, boot_said, call_numbers_said, count_said, is_path, moment_said}
 use Rattle.command_words.specs.Values.{pace_said, seed_said}
 use Rattle.command_words.specs.declared.run_setup.Setup.{Setup}
@@ -40,8 +40,8 @@ abbrev pub store_options : List Taking
 store_options = (codes "db", is_path) ∷ []
 
 -- the words after `make` and after `drill`
-abbrev pub stream_places : List Rule
-stream_places = place_of (codes "seed") ∷ place_of (codes "count") ∷ []
+abbrev pub stream_positionals : List Rule
+stream_positionals = positional_of (codes "seed") ∷ positional_of (codes "count") ∷ []
 
 -- options as `clap` reads them
 abbrev pub rules_of : List Taking → List Rule
@@ -52,10 +52,10 @@ abbrev pub run_command : Shape
 run_command = command_of (codes "run") (rules_of run_options)
 
 abbrev pub make_command : Shape
-make_command = command_of (codes "make") stream_places
+make_command = command_of (codes "make") stream_positionals
 
 abbrev pub drill_command : Shape
-drill_command = command_of (codes "drill") (stream_places ++ rules_of store_options)
+drill_command = command_of (codes "drill") (stream_positionals ++ rules_of store_options)
 
 abbrev pub check_command : Shape
 check_command = command_of (codes "check") (rules_of store_options)

@@ -2,7 +2,7 @@
 ghost use Rattle.std.specs.Prelude.{◌≡◌, false, IfOk, IsErr, MatchResult};
 ghost use Rattle.clap.specs.Words.{app_of, shape_of, with_subcommand};
 ghost use Rattle.clap.specs.declared.builder.command.Command.TheViews.{out-Command as fields_of};
-ghost use Rattle.command_words.specs.Commands.{AddsRule, option_of, place_of, required_option_of};
+ghost use Rattle.command_words.specs.Commands.{AddsRule, option_of, positional_of, required_option_of};
 
 use clap::{Arg, ArgAction, Command};
 use size_values::NoMemory;
@@ -36,12 +36,12 @@ pub fn with_required_option<'a>(
 }
 
 /// Adds a word that has to stand in its place.
-pub fn with_place<'a>(
+pub fn with_positional<'a>(
     alloc: Global,
     command: Command<'a>,
     name: &'a str,
 ) -> Result<Command<'a>, NoMemory>
-    ensures { IfOk result (AddsRule (place_of name.entry.now) command.entry) }
+    ensures { IfOk result (AddsRule (positional_of name.entry.now) command.entry) }
 {
     let place = Arg::new(alloc, name).action(ArgAction::Set).required(true);
     Ok(command.arg(place)?)

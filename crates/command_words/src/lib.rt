@@ -16,7 +16,7 @@ mod serve_setup;
 mod serve_values;
 mod serve_words;
 
-pub use commands::{with_command, with_option, with_place, with_required_option};
+pub use commands::{with_command, with_option, with_positional, with_required_option};
 pub use help::{run_help, serve_help};
 pub use numbers::number_said;
 pub use reading::{parse_words, value_of};

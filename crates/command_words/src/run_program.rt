@@ -6,7 +6,7 @@ ghost use Rattle.command_words.specs.Commands.{HasShape};
 ghost use Rattle.command_words.specs.RunWords.{bare_program, check_command, drill_command, parsed_command, make_command};
 ghost use Rattle.command_words.specs.RunWords.{run_command, run_program};
 
-use crate::commands::{with_command, with_option, with_place};
+use crate::commands::{with_command, with_option, with_positional};
 use crate::reading::parse_words;
 use clap::{ArgMatches, Command};
 use size_values::NoMemory;
@@ -28,16 +28,16 @@ fn make_command<'a>(alloc: Global) -> Result<Command<'a>, NoMemory>
     ensures { IfOk result (HasShape make_command) }
 {
     let command = Command::new(alloc, "make");
-    let command = with_place(alloc, command, "seed")?;
-    with_place(alloc, command, "count")
+    let command = with_positional(alloc, command, "seed")?;
+    with_positional(alloc, command, "count")
 }
 
 fn drill_command<'a>(alloc: Global) -> Result<Command<'a>, NoMemory>
     ensures { IfOk result (HasShape drill_command) }
 {
     let command = Command::new(alloc, "drill");
-    let command = with_place(alloc, command, "seed")?;
-    let command = with_place(alloc, command, "count")?;
+    let command = with_positional(alloc, command, "seed")?;
+    let command = with_positional(alloc, command, "count")?;
     with_option(alloc, command, "db")
 }
 

@@ -58,7 +58,7 @@ impl<V> Sorted<V> {
     }
 
     /// The place of a key, or else the place that it would take.
-    fn place_of(&self, key: &str) -> Result<usize, usize>
+    fn index_of(&self, key: &str) -> Result<usize, usize>
         ensures found { IfOk result (IsAt self.now key.now) }
         ensures absent { IfErr result (IsGap self.now key.now) }
     {
@@ -71,7 +71,7 @@ impl<V> Sorted<V> {
     pub fn get(&self, key: &str) -> Option<&V>
         ensures { option_copied result ≡ value_of self.now key.now }
     {
-        match self.place_of(key) {
+        match self.index_of(key) {
             Ok(place) => Some(&self.entries[place].1),
             Err(_) => None,
         }
@@ -100,7 +100,7 @@ impl<V: Drop> Sorted<V> {
         ensures ok { OnOk result (self.new ≡ put self.old key.now value) }
         ensures err { OnErr result (self.new ≡ self.old) }
     {
-        match self.place_of(key) {
+        match self.index_of(key) {
             Ok(place) => {
                 self.entries[place].1 = value;
                 Ok(())
@@ -124,7 +124,7 @@ impl<V: Drop> Sorted<V> {
         ensures after { self.new ≡ without self.old key.now }
         ensures found { result ≡ is_some (value_of self.old key.now) }
     {
-        let Ok(place) = self.place_of(key) else {
+        let Ok(place) = self.index_of(key) else {
             return false;
         };
         self.entries.remove(place);

@@ -1,7 +1,7 @@
 -- An edit of a list at one place, and the edit that takes it back.
 use Rattle.std.proofs.Common.{◌≡◌, ℕ, zero, suc, ◌+◌, ◌-◌, ◌<◌, ◌≤◌, Bool, List, [], ◌∷◌, ◌++◌, ◌∙◌, length, length-append, take, get_or, set, refl, ap, arith}
 use Rattle.std.specs.List.{insert, remove}
-use Rattle.operations.specs.Kept.{Kept, entered}
+use Rattle.operations.specs.OperationTable.{OperationTable, entered}
 use Rattle.core_drafts.specs.Background.{before_claim}
 use Rattle.row_machine.specs.machine.Task.{Task}
 use Rattle.std.proofs.Math.Seq.{take-append_seam}
@@ -30,7 +30,7 @@ push-back xs x =
     ap (λ n. take n (xs ++ x ∷ [])) shorter ∙ take-append_seam xs (x ∷ [])
 
 -- an operation that is entered and taken back
-pub claim-back : (may_cancel : Bool) (task : Task) (moment : ℕ) (k : Kept Task) → before_claim (entered may_cancel task moment k) ≡ k
+pub claim-back : (may_cancel : Bool) (task : Task) (moment : ℕ) (k : OperationTable Task) → before_claim (entered may_cancel task moment k) ≡ k
 claim-back may_cancel task moment k = λ i. record { live = live i; ended = k.ended; next = next i } where
   live : (before_claim (entered may_cancel task moment k)).live ≡ k.live
   live = push-back k.live _

@@ -5,7 +5,7 @@ use Rattle.core_drafts.specs.Background.{holding}
 use Rattle.row_machine.specs.machine.Claims.{share_of}
 use Rattle.row_machine.specs.machine.State.{State}
 use Rattle.row_machine.specs.machine.Task.{Task}
-use Rattle.row_machine.specs.machine.Work.{claiming, entered, project_of_task}
+use Rattle.row_machine.specs.machine.Operations.{claiming, entered, project_of_task}
 
 pub claim-held : (s : State) (task : Task) (moment : ℕ) → holding (project_of_task task) (share_of s task) (claiming s task moment) ≡ entered s task moment
 unfolding entered

@@ -10,9 +10,9 @@ use Rattle.records.specs.declared.rows.Row.TheVariants as row
 use Rattle.row_machine.specs.declared.changes.RowChange.{RowChange}
 use Rattle.row_machine.specs.declared.changes.RowChange.TheVariants as change
 use Rattle.row_machine.specs.facts.Whole.{Rise}
-use Rattle.row_machine.specs.machine.Changes.{with_row, without_row, changed, standing_with}
-use Rattle.row_machine.specs.machine.Rows.{is_project, is_profile, is_network, is_pool, is_volume, is_instance, is_snapshot, is_standing, with_standing, project_names, profile_names, network_names, pool_names, volume_names, instance_names, snapshot_names, standing_names}
-use Rattle.row_machine.specs.machine.State.{State, Standing, empty_state}
+use Rattle.row_machine.specs.machine.Changes.{with_row, without_row, changed, powers_with}
+use Rattle.row_machine.specs.machine.Rows.{is_project, is_profile, is_network, is_pool, is_volume, is_instance, is_snapshot, is_power_of, with_instance_power, project_names, profile_names, network_names, pool_names, volume_names, instance_names, snapshot_names, power_names}
+use Rattle.row_machine.specs.machine.State.{State, InstancePower, empty_state}
 use Rattle.size_values.specs.declared.kinds.ObjectKind.{ObjectKind}
 use Rattle.size_values.specs.declared.kinds.ObjectKind.TheVariants as kind
 use Rattle.size_values.specs.declared.kinds.Power.{Power}
@@ -24,20 +24,20 @@ use Rattle.row_readings.specs.Rising.{AreRising}
 -- ---- statuses
 
 -- a profile of the names of a status, of which all is true that is true of its names
-abbrev named_so : Standing → Profile
+abbrev named_so : InstancePower → Profile
 named_so p = record { project = p.project; name = p.name; description = []; config = []; devices = [] }
 
-standing_is : (project name : List ℕ) (p : Standing) → is_standing project name p ≡ true → standing_names p ≡ project ∷ name ∷ []
-standing_is project name p = profile_is project name (named_so p)
+power_is : (project name : List ℕ) (p : InstancePower) → is_power_of project name p ≡ true → power_names p ≡ project ∷ name ∷ []
+power_is project name p = profile_is project name (named_so p)
 
-standing_differs : (project name : List ℕ) (p : Standing) → is_standing project name p ≡ false → standing_names p ≢ project ∷ name ∷ []
-standing_differs project name p = profile_differs project name (named_so p)
+power_differs : (project name : List ℕ) (p : InstancePower) → is_power_of project name p ≡ false → power_names p ≢ project ∷ name ∷ []
+power_differs project name p = profile_differs project name (named_so p)
 
-rising-standing : (i : Instance) (powers : List Standing) → Rise standing_names powers → Rise standing_names (standing_with i powers)
-rising-standing i powers up = at (list_any (is_standing i.project i.name) powers) where
-  at : (b : Bool) → Rise standing_names (cond b powers (with_standing (stopped i) powers))
+rising-powers_with : (i : Instance) (powers : List InstancePower) → Rise power_names powers → Rise power_names (powers_with i powers)
+rising-powers_with i powers up = at (list_any (is_power_of i.project i.name) powers) where
+  at : (b : Bool) → Rise power_names (cond b powers (with_instance_power (stopped i) powers))
   at true = up
-  at false = Rise-replaced standing_names (is_standing i.project i.name) (stopped i) powers (standing_is i.project i.name) (standing_differs i.project i.name) up
+  at false = Rise-replaced power_names (is_power_of i.project i.name) (stopped i) powers (power_is i.project i.name) (power_differs i.project i.name) up
 
 -- ---- all lists
 
@@ -112,7 +112,7 @@ rising-with (row.Instance r) s h = record {
   volumes = h.volumes;
   instances = Rise-replaced instance_names (is_instance r.project r.name) r s.instances (instance_is r.project r.name) (instance_differs r.project r.name) h.instances;
   snapshots = h.snapshots;
-  powers = rising-standing r s.powers h.powers;
+  powers = rising-powers_with r s.powers h.powers;
 }
 rising-with (row.Snapshot r) s h = record {
   projects = h.projects;
@@ -184,7 +184,7 @@ rising-without kind.Instance key s h = record {
   volumes = h.volumes;
   instances = Rise-dropped instance_names _ s.instances h.instances;
   snapshots = h.snapshots;
-  powers = Rise-dropped standing_names _ s.powers h.powers;
+  powers = Rise-dropped power_names _ s.powers h.powers;
 }
 rising-without kind.Snapshot key s h = record {
   projects = h.projects;
@@ -203,8 +203,8 @@ rising-changed (change.Put r) s h = rising-with r s h
 rising-changed (change.Remove of key) s h = rising-without of key s h
 
 -- an instance has another status
-pub rising-powers : (s : State) (project name : List ℕ) (power : Power) (powers : List Standing)
-    → powers ≡ changed_first (is_standing project name) (λ (p : Standing). record p { power = power }) s.powers
+pub rising-powers : (s : State) (project name : List ℕ) (power : Power) (powers : List InstancePower)
+    → powers ≡ changed_first (is_power_of project name) (λ (p : InstancePower). record p { power = power }) s.powers
     → AreRising s → AreRising (record s { powers = powers })
 rising-powers s project name power powers is h = record {
   projects = h.projects;
@@ -214,7 +214,7 @@ rising-powers s project name power powers is h = record {
   volumes = h.volumes;
   instances = h.instances;
   snapshots = h.snapshots;
-  powers = subst (Rise standing_names) (sym is) (Rise-changed standing_names (is_standing project name) (λ p. record p { power = power }) s.powers (λ p passes. refl) h.powers);
+  powers = subst (Rise power_names) (sym is) (Rise-changed power_names (is_power_of project name) (λ p. record p { power = power }) s.powers (λ p passes. refl) h.powers);
 }
 
 -- rows put one after the other: one more

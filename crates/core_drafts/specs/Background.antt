@@ -6,7 +6,7 @@ use Rattle.instance_states.specs.Plans.{undo_of}
 use Rattle.operations.specs.declared.operation.Operation.{Operation}
 use Rattle.operations.specs.declared.operation.OpFault.TheVariants as fault
 use Rattle.operations.specs.declared.status.Status.TheVariants as status
-use Rattle.operations.specs.Kept.{Kept, live_at}
+use Rattle.operations.specs.OperationTable.{OperationTable, live_at}
 use Rattle.reservations.specs.declared.books.Books.{Books}
 use Rattle.reservations.specs.declared.books.Hold.{Hold}
 use Rattle.core_drafts.specs.declared.calls.Handing.{Handing}
@@ -17,7 +17,7 @@ use Rattle.row_machine.specs.machine.State.{State}
 use Rattle.size_values.specs.Amounts.{nothing}
 use Rattle.size_values.specs.declared.amounts.Amounts.{Amounts}
 use Rattle.std.specs.Option.{option_map_or}
-use Rattle.row_machine.specs.machine.Work.{handing_out, one_more_done, undone}
+use Rattle.row_machine.specs.machine.Operations.{handing_out, one_more_done, undone}
 
 -- how many operations can be entered, and how many shares held, without taking memory; and the greatest operation that
 -- ever held a share, 0 where none did
@@ -28,7 +28,7 @@ pub record Backing : Type 0 where
 
 -- the kept operations, the shares that they hold, the books, and what there is memory for
 pub record Background : Type 0 where
-  pub operations : Kept Task
+  pub operations : OperationTable Task
   pub held : List Hold
   pub books : Books
   pub backing : Backing
@@ -66,7 +66,7 @@ pending_of number task moment = record {
 }
 
 -- the operations as they were before the one that was entered last
-abbrev pub before_claim : Kept Task → Kept Task
+abbrev pub before_claim : OperationTable Task → OperationTable Task
 before_claim kept = record { live = take (length kept.live - 1) kept.live; ended = kept.ended; next = kept.next - 1 }
 
 -- ---- calls
@@ -85,7 +85,7 @@ handed handing.Next task = by_calls task.calls where
 handed handing.Undo task = option_map (λ call. (call, undone task)) task.undo
 
 -- what the live operation of this number hands out
-abbrev pub handed_at : Handing → Kept Task → ℕ → Option (HostCall × Task)
+abbrev pub handed_at : Handing → OperationTable Task → ℕ → Option (HostCall × Task)
 handed_at which kept number =
     option_and_then (λ (operation : Operation Task). handed which operation.work) (live_at kept number)
 
@@ -95,6 +95,6 @@ HasCount handing.Next task = task.done + 1 < 2 ^ 32
 HasCount other task = Unit {0}
 
 -- the same of the live operation of this number
-abbrev pub HasCountAt : Handing → Kept Task → ℕ → Type 0
+abbrev pub HasCountAt : Handing → OperationTable Task → ℕ → Type 0
 HasCountAt which kept number =
     IfSome (live_at kept number) (λ (operation : Operation Task). HasCount which operation.work)

@@ -5,7 +5,7 @@ use Rattle.records.specs.declared.rows.Instance.{Instance}
 use Rattle.records.specs.declared.rows.Row.TheVariants as row
 use Rattle.row_machine.specs.declared.changes.RowChange.{RowChange}
 use Rattle.row_machine.specs.declared.changes.RowChange.TheVariants as change
-use Rattle.row_machine.specs.machine.State.{State, Standing}
+use Rattle.row_machine.specs.machine.State.{State, InstancePower}
 use Rattle.core_drafts.specs.Background.{Backing}
 use Rattle.core_drafts.specs.declared.lists.Undone.{Undone}
 use Rattle.core_drafts.specs.Steps.{before_changes}
@@ -25,7 +25,7 @@ pub record Drafted : Type 0 where
   pub log : List Undone
   pub room : ℕ
   pub log_room : ℕ
-  pub spares : List Standing
+  pub spares : List InstancePower
   pub backing : Backing
 
 -- the state before the changes that are not settled yet
@@ -40,16 +40,16 @@ pub record CanClaim (draft : Drafted) : Type 0 where
   pub hold : 1 ≤ draft.backing.hold_room
 
 -- the status of a new instance
-abbrev pub stopped : Instance → Standing
+abbrev pub stopped : Instance → InstancePower
 stopped instance = record { project = instance.project; name = instance.name; power = Stopped }
 
 -- the status that a change may need: that of the instance which it puts
-abbrev pub spares_for : RowChange → List Standing
+abbrev pub spares_for : RowChange → List InstancePower
 spares_for (change.Put (row.Instance instance)) = stopped instance ∷ []
 spares_for other = []
 
 -- those that changes may need, in their order
-abbrev pub spares_of : List RowChange → List Standing
+abbrev pub spares_of : List RowChange → List InstancePower
 spares_of [] = []
 spares_of (change ∷ changes) = spares_for change ++ spares_of changes
 

@@ -3,15 +3,15 @@ ghost use Rattle.std.specs.Prelude.{◌≡◌, ◌+◌, ◌-◌, ◌^◌, ◌≤
 ghost use Rattle.std.specs.Prelude.{is_some, find, length, take, vec_capacity};
 ghost use Rattle.host_model.specs.declared.call.HostCall.{HostCall as HostCallValue};
 ghost use Rattle.instance_states.specs.Plans.{undo_of};
-ghost use Rattle.operations.specs.Kept.{no_operations, entered};
-ghost use Rattle.operations.specs.Kept.{has_number, live_at, with_work, moved, ends};
+ghost use Rattle.operations.specs.OperationTable.{no_operations, entered};
+ghost use Rattle.operations.specs.OperationTable.{has_number, live_at, with_work, moved, ends};
 ghost use Rattle.operations.specs.declared.operation.Operation.{Operation as OperationValue};
 ghost use Rattle.plain_lists.specs.Edits.{changed_first, dropped};
 ghost use Rattle.reservations.specs.Holdings.{no_books, has_op};
 ghost use Rattle.reservations.specs.Holdings.{granted_more, converted_more, returned_more};
 ghost use Rattle.core_drafts.specs.Background.{before_claim, pending_of, share_in, handed, handed_at, HasCount};
 ghost use Rattle.core_drafts.specs.Background.{HasCountAt};
-ghost use Rattle.row_machine.specs.machine.Task.{Task};
+ghost use Rattle.row_machine.specs.machine.Task.{Task as TaskValue};
 ghost use Rattle.size_values.specs.Amounts.{part};
 ghost use Rattle.size_values.specs.declared.amounts.Part.{Part};
 
@@ -23,7 +23,7 @@ use operations::{
 };
 use plain_lists::push_reserved;
 use reservations::{Books, Hold, Ledger};
-use row_machine::Work;
+use row_machine::Task;
 use size_values::{Amounts, NoMemory, Text};
 use std::alloc::Global;
 use std::marker::Model;
@@ -32,8 +32,8 @@ use std::marker::Model;
 /// entered and held without taking memory. There is room for all ended operations that are kept.
 #[derive(Drop)]
 pub(crate) struct Background {
-    live: Vec<Operation<Work>>,
-    ended: Vec<Operation<Work>>,
+    live: Vec<Operation<Task>>,
+    ended: Vec<Operation<Task>>,
     next: u64,
     ledger: Ledger,
 }
@@ -68,14 +68,14 @@ impl Background {
     }
 
     /// The live operations, in the order of their numbers.
-    pub(crate) fn live(&self) -> &[Operation<Work>]
+    pub(crate) fn live(&self) -> &[Operation<Task>]
         ensures { result.now ≡ self.now.operations.live }
     {
         &self.live
     }
 
     /// Those that ended last, in the order of their ends.
-    pub(crate) fn ended(&self) -> &[Operation<Work>]
+    pub(crate) fn ended(&self) -> &[Operation<Task>]
         ensures { result.now ≡ self.now.operations.ended }
     {
         &self.ended
@@ -103,7 +103,7 @@ impl Background {
     }
 
     /// The live operation of a number, which there is.
-    pub(crate) fn at(&self, number: u64) -> &Operation<Work>
+    pub(crate) fn at(&self, number: u64) -> &Operation<Task>
         requires { IsSome (live_at self.now.operations number) }
         ensures { live_at self.now.operations number ≡ Some result.now }
     {
@@ -124,7 +124,7 @@ impl Background {
     }
 
     /// Enters an operation with the next number, which is answered. It takes no memory.
-    pub(crate) fn claim(&mut self, work: Work, moment: u64) -> u64
+    pub(crate) fn claim(&mut self, work: Task, moment: u64) -> u64
         requires room { 1 ≤ self.old.backing.claim_room }
         requires number { self.old.operations.next ≤ 2 ^ 40 }
         ensures operations { self.new.operations
@@ -183,7 +183,7 @@ impl Background {
     pub(crate) fn hand_out(&mut self, number: u64, which: Handing) -> HostCall
         requires call { IsSome (handed_at which self.old.operations number) }
         requires count { HasCountAt which self.old.operations number }
-        ensures operations { (call : HostCallValue) (task : Task)
+        ensures operations { (call : HostCallValue) (task : TaskValue)
             → handed_at which self.old.operations number ≡ Some (call, task) →
             (result ≡ call) × (self.new.operations ≡ with_work number task self.old.operations) }
         ensures held { self.new.held ≡ self.old.held }
@@ -233,7 +233,7 @@ impl Background {
 }
 
 /// An operation that waits for its first call.
-fn pending(number: u64, work: Work, moment: u64) -> Operation<Work>
+fn pending(number: u64, work: Task, moment: u64) -> Operation<Task>
     ensures { result ≡ pending_of number work moment }
 {
     let may_cancel = may_cancel(work.deed);
@@ -259,18 +259,19 @@ fn drop_last<T: Drop>(items: &mut Vec<T>)
 }
 
 /// The operation of this number hands out a call.
-fn hand_out_of(operations: &mut Vec<Operation<Work>>, number: u64, which: Handing) -> HostCall
+fn hand_out_of(operations: &mut Vec<Operation<Task>>, number: u64, which: Handing) -> HostCall
     requires there { IsSome (find (has_number number) operations.old.items) }
     requires call { IfSome (find (has_number number) operations.old.items)
-        (λ (o : OperationValue Task). IsSome (handed which o.work)) }
+        (λ (o : OperationValue TaskValue). IsSome (handed which o.work)) }
     requires count { IfSome (find (has_number number) operations.old.items)
-        (λ (o : OperationValue Task). HasCount which o.work) }
-    ensures items { (o : OperationValue Task) (task : Task) → find (has_number number) operations.old.items ≡ Some o →
+        (λ (o : OperationValue TaskValue). HasCount which o.work) }
+    ensures items { (o : OperationValue TaskValue) (task : TaskValue)
+        → find (has_number number) operations.old.items ≡ Some o →
         handed which o.work ≡ Some (result, task) →
         operations.new.items
         ≡ changed_first (has_number number)
-        (λ (x : OperationValue Task). record x { work = task }) operations.old.items }
-    ensures call { (o : OperationValue Task) (call : HostCallValue) (task : Task)
+        (λ (x : OperationValue TaskValue). record x { work = task }) operations.old.items }
+    ensures call { (o : OperationValue TaskValue) (call : HostCallValue) (task : TaskValue)
         → find (has_number number) operations.old.items ≡ Some o →
         handed which o.work ≡ Some (call, task) → result ≡ call }
 {

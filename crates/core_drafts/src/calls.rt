@@ -4,7 +4,7 @@ ghost use Rattle.core_drafts.specs.Background.{handed, HasCount};
 ghost use Rattle.core_drafts.specs.declared.calls.Handing.TheVariants as handing;
 
 use host_model::HostCall;
-use row_machine::Work;
+use row_machine::Task;
 
 /// Which call of a task is handed out: the first that is left; the same, once the one before it was done; or the one
 /// that takes the deed back.
@@ -16,7 +16,7 @@ pub enum Handing {
 }
 
 /// The first call that is left.
-fn first_call(work: &mut Work) -> HostCall
+fn first_call(work: &mut Task) -> HostCall
     requires { IsSome (handed handing.First work.old) }
     ensures { handed handing.First work.old ≡ Some (result, work.new) }
 {
@@ -27,7 +27,7 @@ fn first_call(work: &mut Work) -> HostCall
 }
 
 /// The first call that is left, after one more was done.
-fn next_call(work: &mut Work) -> HostCall
+fn next_call(work: &mut Task) -> HostCall
     requires call { IsSome (handed handing.Next work.old) }
     requires count { HasCount handing.Next work.old }
     ensures { handed handing.Next work.old ≡ Some (result, work.new) }
@@ -40,7 +40,7 @@ fn next_call(work: &mut Work) -> HostCall
 }
 
 /// The call that takes the deed back.
-fn undo_call(work: &mut Work) -> HostCall
+fn undo_call(work: &mut Task) -> HostCall
     requires { IsSome (handed handing.Undo work.old) }
     ensures { handed handing.Undo work.old ≡ Some (result, work.new) }
 {
@@ -51,7 +51,7 @@ fn undo_call(work: &mut Work) -> HostCall
 }
 
 /// The call that a task hands out, which it has. It takes no memory.
-pub(crate) fn hand_out(work: &mut Work, which: Handing) -> HostCall
+pub(crate) fn hand_out(work: &mut Task, which: Handing) -> HostCall
     requires call { IsSome (handed which work.old) }
     requires count { HasCount which work.old }
     ensures { handed which work.old ≡ Some (result, work.new) }

@@ -1,15 +1,15 @@
 ghost use Rattle.std.specs.Prelude.{◌≡◌, ◌+◌, ◌*◌, ◌-◌, ◌^◌, ◌<◌, ◌≤◌, ◌∷◌, ◌++◌, [], true, Some, IsSome, length, take};
 ghost use Rattle.std.specs.Prelude.{drop, find, IfOk, OnOk};
 ghost use Rattle.host_model.specs.declared.call.HostCall.{HostCall as HostCallValue};
-ghost use Rattle.operations.specs.Kept.{live_at};
+ghost use Rattle.operations.specs.OperationTable.{live_at};
 ghost use Rattle.operations.specs.declared.operation.Operation.{Operation as OperationValue};
 ghost use Rattle.row_machine.specs.declared.changes.RowChange.TheVariants as change_of;
 ghost use Rattle.row_machine.specs.machine.Changes.{changed, applied};
 ghost use Rattle.row_machine.specs.machine.State.{empty_state};
-ghost use Rattle.row_machine.specs.machine.Task.{Task};
-ghost use Rattle.row_machine.specs.machine.Work.{claiming, moved, with_task};
-ghost use Rattle.row_machine.specs.machine.Work.{with_power, ended, is_held_by, converted};
-ghost use Rattle.row_machine.specs.machine.Work.{returned};
+ghost use Rattle.row_machine.specs.machine.Task.{Task as TaskValue};
+ghost use Rattle.row_machine.specs.machine.Operations.{claiming, moved, with_task};
+ghost use Rattle.row_machine.specs.machine.Operations.{with_power, ended, is_held_by, converted};
+ghost use Rattle.row_machine.specs.machine.Operations.{returned};
 ghost use Rattle.core_drafts.specs.Background.{holding, handed_at, HasCountAt};
 ghost use Rattle.core_drafts.specs.Drafted.{former, stopped, spares_for, spares_of, IsReady, CanClaim};
 ghost use Rattle.core_drafts.specs.declared.calls.Handing.TheVariants as handing;
@@ -22,14 +22,14 @@ use host_model::HostCall;
 use operations::{OpFault, Status};
 use plain_lists::push_reserved;
 use records::{Instance, Row};
-use row_machine::{RowChange, Work};
-use row_readings::{InstancePower, View};
+use row_machine::{RowChange, Task};
+use row_readings::{InstancePower, StateRef};
 use size_values::{Amounts, NoMemory, Power, Seq, Text};
 use std::alloc::Global;
 use std::marker::Model;
 
 /// Rows of which no facts are known: in the middle of a list of changes they need not hold. Changes stay in a log until
-/// they are settled, and those in the log can be taken back: neither takes memory. Contracts see the state, the log,
+/// they are kept, and those in the log can be undone: neither takes memory. Contracts see the state, the log,
 /// and what there is memory for.
 #[derive(Drop)]
 pub struct Draft {
@@ -111,7 +111,7 @@ impl Draft {
     }
 
     /// The rows, to be read.
-    pub fn view(&self) -> View<'_>
+    pub fn view(&self) -> StateRef<'_>
         ensures { result ≡ self.now.state }
     {
         self.lists.view()
@@ -177,8 +177,8 @@ impl Draft {
         }
     }
 
-    /// Settles the changes: they are not taken back any more.
-    pub fn settle(&mut self)
+    /// Keeps the changes: they are not undone any more.
+    pub fn keep_changes(&mut self)
         ensures state { self.new.state ≡ self.old.state }
         ensures log { self.new.log ≡ [] }
         ensures backing { self.new.backing ≡ self.old.backing }
@@ -186,25 +186,25 @@ impl Draft {
         self.log.clear();
     }
 
-    fn take_last_back(&mut self)
+    fn undo_last(&mut self)
         ensures former { former self.new ≡ former self.old }
         ensures made { length self.new.log ≡ length self.old.log - 1 }
         ensures greatest { self.new.backing.greatest ≡ self.old.backing.greatest }
     {
         match self.log.pop() {
-            Some(undone) => self.lists.take_back(undone),
+            Some(undone) => self.lists.undo_change(undone),
             None => {}
         }
     }
 
-    /// Takes back the changes that are not settled, the last one first. It takes no memory.
-    pub fn take_back(&mut self)
+    /// Undoes the changes that are not kept yet, the last one first. It takes no memory.
+    pub fn undo_changes(&mut self)
         ensures state { self.new.state ≡ former self.old }
         ensures log { self.new.log ≡ [] }
         ensures greatest { self.new.backing.greatest ≡ self.old.backing.greatest }
     {
         for _place in 0..self.log.len() {
-            self.take_last_back();
+            self.undo_last();
         }
     }
 
@@ -223,7 +223,7 @@ impl Draft {
 
     /// Enters an operation with the next number, which is answered. It is taken back as every other change is. It takes
     /// no memory.
-    pub fn claim(&mut self, work: Work, moment: u64) -> u64
+    pub fn claim(&mut self, work: Task, moment: u64) -> u64
         requires ready { CanClaim self.old }
         requires number { self.old.state.operations.next ≤ 2 ^ 40 }
         ensures state { self.new.state ≡ claiming self.old.state work moment }
@@ -266,7 +266,7 @@ impl Draft {
     pub fn hand_out(&mut self, number: u64) -> HostCall
         requires settled { self.old.log ≡ [] }
         requires call { IsSome (handed_at handing.First self.old.state.operations number) }
-        ensures state { (call : HostCallValue) (task : Task)
+        ensures state { (call : HostCallValue) (task : TaskValue)
             → handed_at handing.First self.old.state.operations number ≡ Some (call, task) →
             (result ≡ call) × (self.new.state ≡ with_task number task self.old.state) }
         ensures log { self.new.log ≡ [] }
@@ -281,7 +281,7 @@ impl Draft {
         requires settled { self.old.log ≡ [] }
         requires call { IsSome (handed_at handing.Next self.old.state.operations number) }
         requires count { HasCountAt handing.Next self.old.state.operations number }
-        ensures state { (call : HostCallValue) (task : Task)
+        ensures state { (call : HostCallValue) (task : TaskValue)
             → handed_at handing.Next self.old.state.operations number ≡ Some (call, task) →
             (result ≡ call) × (self.new.state ≡ with_task number task self.old.state) }
         ensures log { self.new.log ≡ [] }
@@ -295,7 +295,7 @@ impl Draft {
     pub fn hand_out_undo(&mut self, number: u64) -> HostCall
         requires settled { self.old.log ≡ [] }
         requires call { IsSome (handed_at handing.Undo self.old.state.operations number) }
-        ensures state { (call : HostCallValue) (task : Task)
+        ensures state { (call : HostCallValue) (task : TaskValue)
             → handed_at handing.Undo self.old.state.operations number ≡ Some (call, task) →
             (result ≡ call) × (self.new.state ≡ with_task number task self.old.state) }
         ensures log { self.new.log ≡ [] }
@@ -309,7 +309,7 @@ impl Draft {
     pub fn set_power_of(&mut self, number: u64, power: Power)
         requires settled { self.old.log ≡ [] }
         requires live { IsSome (live_at self.old.state.operations number) }
-        ensures state { (o : OperationValue Task) → live_at self.old.state.operations number ≡ Some o →
+        ensures state { (o : OperationValue TaskValue) → live_at self.old.state.operations number ≡ Some o →
             self.new.state ≡ with_power self.old.state o.work.project o.work.target.name power }
         ensures log { self.new.log ≡ [] }
         ensures greatest { self.new.backing.greatest ≡ self.old.backing.greatest }

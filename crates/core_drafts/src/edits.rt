@@ -23,7 +23,7 @@ pub(crate) enum Step<T> {
 }
 
 /// The place of the row with the names of this one, or the one at which this one would stand.
-fn place_of<T: Placed>(rows: &[T], row: &T) -> Result<usize, usize>
+fn index_of<T: Placed>(rows: &[T], row: &T) -> Result<usize, usize>
     requires { Rise T.names rows.now }
     ensures bound { IsSearchInRange result (length rows.now) }
     ensures place { FindsPlace T.names (T.names row.now) rows.now result }
@@ -73,7 +73,7 @@ pub(crate) fn put<T: Placed + Drop>(rows: &mut Vec<T>, row: T) -> Step<T>
     ensures fits { FitsStep result rows.new.items }
     ensures room { vec_capacity rows.old - vec_len rows.old ≤ (vec_capacity rows.new - vec_len rows.new) + 1 }
 {
-    match place_of(rows, &row) {
+    match index_of(rows, &row) {
         Ok(place) => Step::Replaced(place, replace_at(rows, place, row)),
         Err(place) => {
             insert_reserved(rows, place, row);
@@ -93,7 +93,7 @@ pub(crate) fn put_new<T: Placed + Drop>(rows: &mut Vec<T>, row: T) -> Step<T>
     ensures fits { FitsStep result rows.new.items }
     ensures room { vec_capacity rows.old - vec_len rows.old ≤ (vec_capacity rows.new - vec_len rows.new) + 1 }
 {
-    match place_of(rows, &row) {
+    match index_of(rows, &row) {
         Ok(_) => Step::Kept,
         Err(place) => {
             insert_reserved(rows, place, row);
@@ -117,7 +117,7 @@ pub(crate) fn remove<T: Placed + Drop>(rows: &mut Vec<T>, key: &str) -> Step<T>
 }
 
 /// As it was before the step. It takes no memory.
-pub(crate) fn take_back<T: Drop>(rows: &mut Vec<T>, step: Step<T>)
+pub(crate) fn undo_step<T: Drop>(rows: &mut Vec<T>, step: Step<T>)
     requires fits { FitsStep step rows.old.items }
     requires room { vec_len rows.old < vec_capacity rows.old }
     ensures rows { rows.new.items ≡ before_step step rows.old.items }

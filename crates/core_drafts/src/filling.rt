@@ -2,8 +2,8 @@
 ghost use Rattle.std.specs.Prelude.{◌≡◌, [], IfOk, OnOk, fold};
 ghost use Rattle.records.specs.declared.rows.Row.TheVariants as row_of;
 ghost use Rattle.row_machine.specs.facts.Whole.{Rise};
-ghost use Rattle.row_machine.specs.machine.Changes.{with_row, standing_with};
-ghost use Rattle.row_machine.specs.machine.Rows.{put_by, standing_names};
+ghost use Rattle.row_machine.specs.machine.Changes.{with_row, powers_with};
+ghost use Rattle.row_machine.specs.machine.Rows.{put_by, power_names};
 ghost use Rattle.row_machine.specs.opening.Opening.{with_rows};
 ghost use Rattle.row_readings.specs.Rising.{AreRising};
 
@@ -34,8 +34,8 @@ fn fill_power(
     powers: &mut Vec<InstancePower>,
     row: &Instance,
 ) -> Result<(), NoMemory>
-    requires { Rise standing_names powers.old.items }
-    ensures { OnOk result (powers.new.items ≡ standing_with row.now powers.old.items) }
+    requires { Rise power_names powers.old.items }
+    ensures { OnOk result (powers.new.items ≡ powers_with row.now powers.old.items) }
 {
     powers.reserve(1)?;
     let power = stopped(alloc, row)?;

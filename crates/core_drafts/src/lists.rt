@@ -2,19 +2,19 @@ ghost use Rattle.std.specs.Prelude.{◌≡◌, ◌+◌, ◌-◌, ◌^◌, ◌<�
 ghost use Rattle.std.specs.Prelude.{find, if◌then◌else◌, OnOk, IfOk};
 ghost use Rattle.std.specs.List.{list_any};
 ghost use Rattle.host_model.specs.declared.call.HostCall.{HostCall as HostCallValue};
-ghost use Rattle.operations.specs.Kept.{live_at};
+ghost use Rattle.operations.specs.OperationTable.{live_at};
 ghost use Rattle.operations.specs.declared.operation.Operation.{Operation as OperationValue};
 ghost use Rattle.plain_lists.specs.Edits.{changed_first};
 ghost use Rattle.records.specs.declared.rows.Row.TheVariants as row_of;
 ghost use Rattle.row_machine.specs.declared.changes.RowChange.TheVariants as change_of;
 ghost use Rattle.row_machine.specs.facts.Whole.{Rise};
-ghost use Rattle.row_machine.specs.machine.Rows.{is_standing, standing_names, with_standing};
+ghost use Rattle.row_machine.specs.machine.Rows.{is_power_of, power_names, with_instance_power};
 ghost use Rattle.row_machine.specs.machine.Changes.{with_row, without_row, changed};
-ghost use Rattle.row_machine.specs.machine.State.{Standing, empty_state};
-ghost use Rattle.row_machine.specs.machine.Task.{Task};
-ghost use Rattle.row_machine.specs.machine.Work.{claiming, moved, with_task};
-ghost use Rattle.row_machine.specs.machine.Work.{with_power, ended, is_held_by, converted};
-ghost use Rattle.row_machine.specs.machine.Work.{returned};
+ghost use Rattle.row_machine.specs.machine.State.{InstancePower as InstancePowerValue, empty_state};
+ghost use Rattle.row_machine.specs.machine.Task.{Task as TaskValue};
+ghost use Rattle.row_machine.specs.machine.Operations.{claiming, moved, with_task};
+ghost use Rattle.row_machine.specs.machine.Operations.{with_power, ended, is_held_by, converted};
+ghost use Rattle.row_machine.specs.machine.Operations.{returned};
 ghost use Rattle.core_drafts.specs.Background.{holding, handed_at, HasCountAt};
 ghost use Rattle.core_drafts.specs.declared.lists.Undone.TheVariants as undone_of;
 ghost use Rattle.row_readings.specs.Rising.{AreRising};
@@ -25,12 +25,12 @@ ghost use Rattle.core_drafts.specs.Steps.{before_change, before_step, FitsChange
 
 use crate::background::Background;
 use crate::calls::Handing;
-use crate::edits::{Step, put, put_new, remove, take_back};
+use crate::edits::{Step, put, put_new, remove, undo_step};
 use host_model::HostCall;
 use operations::{OpFault, Status};
 use records::{Instance, Network, Pool, Profile, Project, Row, Snapshot, Volume};
-use row_machine::{RowChange, Work};
-use row_readings::{InstancePower, Names, View, place_named};
+use row_machine::{RowChange, Task};
+use row_readings::{InstancePower, Names, StateRef, place_named};
 use size_values::{Amounts, Boxed, NoMemory, ObjectKind, Power, Text};
 use std::alloc::Global;
 use std::marker::Model;
@@ -99,11 +99,11 @@ impl Lists {
     }
 
     /// All of it, to be read.
-    pub(crate) fn view(&self) -> View<'_>
+    pub(crate) fn view(&self) -> StateRef<'_>
         requires { AreRising self.now.state }
         ensures { result ≡ self.now.state }
     {
-        View {
+        StateRef {
             projects: &self.projects,
             profiles: &self.profiles,
             networks: &self.networks,
@@ -228,8 +228,8 @@ impl Lists {
         }
     }
 
-    /// Takes one change back. It takes no memory.
-    pub(crate) fn take_back(&mut self, undone: Undone)
+    /// Undoes one change. It takes no memory.
+    pub(crate) fn undo_change(&mut self, undone: Undone)
         requires room { 1 ≤ self.old.room }
         requires fits { FitsChange undone self.old.state }
         ensures state { self.new.state ≡ before_change undone self.old.state }
@@ -237,16 +237,16 @@ impl Lists {
         ensures greatest { self.new.backing.greatest ≡ self.old.backing.greatest }
     {
         match undone {
-            Undone::Project(step) => take_back(&mut self.projects, step),
-            Undone::Profile(step) => take_back(&mut self.profiles, step),
-            Undone::Network(step) => take_back(&mut self.networks, step),
-            Undone::Pool(step) => take_back(&mut self.pools, step),
-            Undone::Volume(step) => take_back(&mut self.volumes, step),
+            Undone::Project(step) => undo_step(&mut self.projects, step),
+            Undone::Profile(step) => undo_step(&mut self.profiles, step),
+            Undone::Network(step) => undo_step(&mut self.networks, step),
+            Undone::Pool(step) => undo_step(&mut self.pools, step),
+            Undone::Volume(step) => undo_step(&mut self.volumes, step),
             Undone::Instance(step, power) => {
-                take_back(&mut self.instances, step);
-                take_back(&mut self.powers, power);
+                undo_step(&mut self.instances, step);
+                undo_step(&mut self.powers, power);
             }
-            Undone::Snapshot(step) => take_back(&mut self.snapshots, step),
+            Undone::Snapshot(step) => undo_step(&mut self.snapshots, step),
             Undone::Claimed => self.background.take_claim_back(),
             Undone::Nothing => {}
         }
@@ -265,7 +265,7 @@ impl Lists {
     }
 
     /// Enters an operation. It takes no memory.
-    pub(crate) fn claim(&mut self, work: Work, moment: u64) -> u64
+    pub(crate) fn claim(&mut self, work: Task, moment: u64) -> u64
         requires room { 1 ≤ self.old.backing.claim_room }
         requires number { self.old.state.operations.next ≤ 2 ^ 40 }
         ensures state { self.new.state ≡ claiming self.old.state work moment }
@@ -304,7 +304,7 @@ impl Lists {
     pub(crate) fn hand_out(&mut self, number: u64, which: Handing) -> HostCall
         requires call { IsSome (handed_at which self.old.state.operations number) }
         requires count { HasCountAt which self.old.state.operations number }
-        ensures state { (call : HostCallValue) (task : Task)
+        ensures state { (call : HostCallValue) (task : TaskValue)
             → handed_at which self.old.state.operations number ≡ Some (call, task) →
             (result ≡ call) × (self.new.state ≡ with_task number task self.old.state) }
         ensures rises { AreRising self.old.state → AreRising self.new.state }
@@ -317,7 +317,7 @@ impl Lists {
     pub(crate) fn set_power_of(&mut self, number: u64, power: Power)
         requires rises { AreRising self.old.state }
         requires live { IsSome (live_at self.old.state.operations number) }
-        ensures state { (o : OperationValue Task) → live_at self.old.state.operations number ≡ Some o →
+        ensures state { (o : OperationValue TaskValue) → live_at self.old.state.operations number ≡ Some o →
             self.new.state ≡ with_power self.old.state o.work.project o.work.target.name power }
         ensures rises { AreRising self.new.state }
         ensures greatest { self.new.backing.greatest ≡ self.old.backing.greatest }
@@ -356,10 +356,10 @@ impl Lists {
 
 /// The instance of a project and name has this status from now on, where it has one.
 fn set_power(powers: &mut Vec<InstancePower>, project: &Text, name: &Text, power: Power)
-    requires { Rise standing_names powers.old.items }
+    requires { Rise power_names powers.old.items }
     ensures { powers.new.items ≡
-        changed_first (is_standing project.now name.now)
-        (λ (p : Standing). record p { power = power }) powers.old.items }
+        changed_first (is_power_of project.now name.now)
+        (λ (p : InstancePowerValue). record p { power = power }) powers.old.items }
 {
     match place_named(powers, Names::Two(project.view(), name.view())) {
         Ok(place) => powers[place].power = power,

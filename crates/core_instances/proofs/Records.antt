@@ -17,7 +17,7 @@ use Rattle.row_machine.specs.machine.Rules.{broken, names_broken, standing_broke
 use Rattle.row_machine.specs.machine.State.{State}
 use Rattle.row_machine.specs.machine.Step.{Outcome, well, keeper_failed, no_memory, after_command, step, unavailable}
 use Rattle.row_machine.specs.machine.Task.{Task}
-use Rattle.row_machine.specs.machine.Work.{entered}
+use Rattle.row_machine.specs.machine.Operations.{entered}
 use Rattle.row_machine.specs.opening.Records.{records_of}
 use Rattle.row_machine.specs.shown.Notices.{operation_notice, telling}
 use Rattle.machine_laws.proofs.BooksSteps.{telling-keeps}

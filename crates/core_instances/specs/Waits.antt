@@ -1,6 +1,6 @@
 -- The waits whose answers are held back.
 use Rattle.std.specs.Prelude.{ℤ, pos, negsuc, ◌==◌, Bool, false, not, ◌&&◌, is_some}
-use Rattle.operations.specs.Kept.{live_at}
+use Rattle.operations.specs.OperationTable.{live_at}
 use Rattle.records.specs.declared.commands.What.{What}
 use Rattle.records.specs.declared.commands.What.TheVariants as what
 use Rattle.row_machine.specs.machine.State.{State}

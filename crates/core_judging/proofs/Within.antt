@@ -11,7 +11,7 @@ use Rattle.rules_limits.specs.OneProject.{of_project, uses_over}
 use Rattle.rules_limits.specs.declared.one_project.InUse.{InUse}
 use Rattle.rules_limits.proofs.Unlimited.{unlimited-named}
 use Rattle.core_judging.specs.Before.{Knows}
-use Rattle.core_judging.specs.Judged.{project_exceeds, project_forbidden, project_judged, project_uncounts, projects_judged}
+use Rattle.core_judging.specs.Judged.{project_exceeds, project_forbidden, project_judged, project_lacks_amount, projects_judged}
 
 -- of three rules each says as much as another one
 three-same : {R : Type 0} {a b c x y z : Option R} → a ≡ x → b ≡ y → c ≡ z
@@ -23,7 +23,7 @@ three-same {R} {a} {b} {c} {x} {y} {z} first second third =
 
 pub judged-within : (s later : State) (cs : List RowChange) (name : List ℕ) (used : InUse) → IsWhole s → later ≡ applied s cs
     → project_within s cs ≡ Some name → Knows name used s later → project_judged name used later ≡ projects_judged s later
-unfolding project_forbidden project_uncounts project_exceeds
+unfolding project_forbidden project_lacks_amount project_exceeds
 judged-within s later cs name used whole made within knows = subst
     (λ t. Knows name used s t → project_judged name used t ≡ projects_judged s t) (sym made) (alike (projects-alone s cs name whole within)) knows where
       t : State

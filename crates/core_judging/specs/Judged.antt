@@ -14,11 +14,11 @@ use Rattle.records.specs.declared.rows.Row.{Row}
 use Rattle.row_machine.specs.machine.State.{State}
 use Rattle.row_machine.specs.machine.SettingRules.{settings_broken}
 use Rattle.row_machine.specs.machine.PolicyRules.{policy_broken, snapshot_blocked}
-use Rattle.row_machine.specs.machine.LimitRules.{counts_broken, limits_broken, project_uncounted}
+use Rattle.row_machine.specs.machine.LimitRules.{counts_broken, limits_broken, project_without_amount}
 use Rattle.row_machine.specs.machine.TableRules.{enter_refusal, tables_broken}
 use Rattle.row_machine.specs.machine.Task.{Task}
 use Rattle.core_totals.specs.OneProject.{in_use, projects_of}
-use Rattle.rules_limits.specs.OneProject.{claim_uncounts, of_project, share_broken, uses_over}
+use Rattle.rules_limits.specs.OneProject.{claim_lacks_amount, of_project, share_broken, uses_over}
 use Rattle.rules_limits.specs.declared.one_project.InUse.{InUse}
 use Rattle.rules_policy.specs.Alone.{claim_forbidden}
 use Rattle.rules_policy.specs.Within.{policy_broken_in}
@@ -41,15 +41,15 @@ projects_judged state later = first (policy_broken later ∷ counts_broken later
 unfoldable pub project_forbidden : List ℕ → State → Option Refusal
 project_forbidden project later = policy_broken_in later (projects_of later project)
 
-unfoldable pub project_uncounts : List ℕ → State → Option Refusal
-project_uncounts project later = of_project (project_uncounted later) later.projects project
+unfoldable pub project_lacks_amount : List ℕ → State → Option Refusal
+project_lacks_amount project later = of_project (project_without_amount later) later.projects project
 
 unfoldable pub project_exceeds : List ℕ → InUse → State → Option Refusal
 project_exceeds project used later = of_project (uses_over used (in_use later project)) later.projects project
 
 abbrev pub project_judged : List ℕ → InUse → State → Option Refusal
 project_judged project used later = first
-    (project_forbidden project later ∷ project_uncounts project later ∷ project_exceeds project used later ∷ [])
+    (project_forbidden project later ∷ project_lacks_amount project later ∷ project_exceeds project used later ∷ [])
 
 -- The first rule that a new operation breaks, judged over the state with it, by what it claims alone: by why it could
 -- not be entered, and by what the project of its share uses beside it.
@@ -58,7 +58,7 @@ claim_judged command later fault project used share task = first
     (settings_broken later (option_to_list task.claim)
     ∷ claim_forbidden later task
     ∷ snapshot_blocked later command
-    ∷ claim_uncounts later project task
+    ∷ claim_lacks_amount later project task
     ∷ share_broken later.projects project used share
     ∷ option_map enter_refusal fault
     ∷ tables_broken later (option_to_list task.claim)

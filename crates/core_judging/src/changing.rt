@@ -25,10 +25,10 @@ use core_totals::entry_changes;
 use record_keeper::Keeper;
 use records::{Profile, Refusal, Reply, Row, Rule};
 use row_machine::RowChange;
-use row_readings::View;
+use row_readings::StateRef;
 use rules_limits::{Usage, counts_broken, limited_projects, limits_broken, usage_before_changes};
 use rules_policy::{policy_broken, profile_forbidden};
-use rules_refusals::nothing_told;
+use rules_refusals::no_details;
 use rules_settings::settings_broken;
 use rules_tables::tables_broken;
 use size_values::{NoMemory, Or, Seq};
@@ -90,7 +90,7 @@ fn profile_put(changes: &[RowChange]) -> Option<&Profile>
 }
 
 /// Whether changes put one profile, of a project and a name that no profile has, and do nothing else.
-fn puts_new_profile(view: &View<'_>, changes: &[RowChange]) -> bool
+fn puts_new_profile(view: &StateRef<'_>, changes: &[RowChange]) -> bool
     ensures { result ≡ puts_new_profile view.now changes.now }
 {
     match profile_put(changes) {
@@ -104,7 +104,7 @@ fn puts_new_profile(view: &View<'_>, changes: &[RowChange]) -> bool
 /// The first rule on policy that the profile breaks in its project which changes put.
 fn profile_put_forbidden(
     alloc: Global,
-    after: &View<'_>,
+    after: &StateRef<'_>,
     changes: &[RowChange],
 ) -> Result<(), Or<Refusal>>
     ensures { Says result (option_and_then (profile_forbidden after.now) (profile_put changes.now)) }
@@ -138,7 +138,11 @@ pub struct Ready {
 
 /// What changes are judged by that are to be made. For one new profile nothing is counted, and for changes within a
 /// project what that one uses.
-fn before_changes(alloc: Global, view: &View<'_>, changes: &[RowChange]) -> Result<Before, NoMemory>
+fn before_changes(
+    alloc: Global,
+    view: &StateRef<'_>,
+    changes: &[RowChange],
+) -> Result<Before, NoMemory>
     ensures limits { IfOk result (λ b. FitsLimits b (applied view.now changes.now)) }
     ensures judges { IfOk result (λ b. Judges b view.now changes.now) }
 {
@@ -178,7 +182,7 @@ pub fn prepare(
 // ---- what is judged
 
 /// The first rule on policy and limits that is broken, of all projects. The limits of each are read once.
-fn projects_broken(alloc: Global, before: &Usage, after: &View<'_>) -> Result<(), Or<Refusal>>
+fn projects_broken(alloc: Global, before: &Usage, after: &StateRef<'_>) -> Result<(), Or<Refusal>>
     ensures { (s : State) → Serves before.now s after.now → Says result (projects_judged s after.now) }
 {
     policy_broken(alloc, after)?;
@@ -191,7 +195,7 @@ fn projects_broken(alloc: Global, before: &Usage, after: &View<'_>) -> Result<()
 fn judge_projects(
     alloc: Global,
     before: &Before,
-    after: &View<'_>,
+    after: &StateRef<'_>,
     changes: &[RowChange],
 ) -> Result<(), Or<Refusal>>
     requires { FitsLimits before.now after.now }
@@ -210,7 +214,7 @@ fn judge_projects(
 pub fn judge(
     alloc: Global,
     before: &Before,
-    after: &View<'_>,
+    after: &StateRef<'_>,
     changes: &[RowChange],
 ) -> Result<(), Or<Refusal>>
     requires { FitsLimits before.now after.now }
@@ -230,7 +234,7 @@ fn unavailable(alloc: Global) -> Refusal
 {
     Refusal {
         rule: Rule::K1,
-        kept: nothing_told(alloc),
+        details: no_details(alloc),
     }
 }
 
@@ -258,6 +262,6 @@ pub fn roll_back(draft: &mut Draft, why: Or<Refusal>) -> Reply
     ensures log { draft.new.log ≡ [] }
     ensures greatest { draft.new.backing.greatest ≡ draft.old.backing.greatest }
 {
-    draft.take_back();
+    draft.undo_changes();
     refused_reply(why)
 }

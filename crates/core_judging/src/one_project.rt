@@ -19,13 +19,15 @@ ghost use Rattle.row_machine.specs.machine.State.{State};
 ghost use Rattle.rules_limits.specs.Limited.{limits_named};
 ghost use Rattle.rules_limits.specs.OneProject.{uses_over};
 ghost use Rattle.core_judging.specs.Before.{Knows, after_change};
-ghost use Rattle.core_judging.specs.Judged.{project_exceeds, project_forbidden, project_judged, project_uncounts};
+ghost use Rattle.core_judging.specs.Judged.{project_exceeds, project_forbidden, project_judged, project_lacks_amount};
 
 use project_limits::{Limits, limits_of};
 use records::{Project, Refusal, Row};
 use row_machine::RowChange;
-use row_readings::{View, is_on, project_of_row, rows_of, usage_of};
-use rules_limits::{InUse, Limited, is_limited_by, limited_named, project_uncounted, uses_exceed};
+use row_readings::{StateRef, is_on, project_of_row, rows_of, usage_of};
+use rules_limits::{
+    InUse, Limited, is_limited_by, limited_named, project_without_amount, uses_exceed,
+};
 use rules_policy::policy_broken_in;
 use size_values::{Amounts, NoMemory, ObjectKind, Or, Text};
 use std::alloc::Global;
@@ -88,7 +90,7 @@ fn touches_profile(change: &RowChange) -> bool
 }
 
 /// Whether another project than `default` has the profiles of `default`.
-fn are_profiles_shared(view: &View<'_>) -> bool
+fn are_profiles_shared(view: &StateRef<'_>) -> bool
     ensures { result ≡ are_profiles_shared view.now }
 {
     view.projects.iter().any(|project| {
@@ -98,14 +100,14 @@ fn are_profiles_shared(view: &View<'_>) -> bool
 
 /// Whether a change touches rows of this project alone. A profile of `default` is one that instances of other projects
 /// may have, which is looked for only then.
-fn is_within(view: &View<'_>, project: &str, change: &RowChange) -> bool
+fn is_within(view: &StateRef<'_>, project: &str, change: &RowChange) -> bool
     ensures { result ≡ is_within (are_profiles_shared view.now) project.now change.now }
 {
     project_touched(change) == project
         && !(touches_profile(change) && "default" == project && are_profiles_shared(view))
 }
 
-fn are_within(view: &View<'_>, project: &str, changes: &[RowChange]) -> bool
+fn are_within(view: &StateRef<'_>, project: &str, changes: &[RowChange]) -> bool
     ensures { result ≡ list_all (is_within (are_profiles_shared view.now) project.now) changes.now }
 {
     changes
@@ -114,7 +116,7 @@ fn are_within(view: &View<'_>, project: &str, changes: &[RowChange]) -> bool
 }
 
 /// The project whose rows all changes touch.
-fn project_of_all<'x>(view: &View<'_>, changes: &'x [RowChange]) -> Option<&'x str>
+fn project_of_all<'x>(view: &StateRef<'_>, changes: &'x [RowChange]) -> Option<&'x str>
     ensures { option_copied result ≡ project_of_all (are_profiles_shared view.now) changes.now }
 {
     match changes {
@@ -213,7 +215,7 @@ fn project_renamed(changes: &[RowChange]) -> Option<&str>
 }
 
 /// The project within which all changes are, which may get another name by them.
-pub(crate) fn project_within<'x>(view: &View<'_>, changes: &'x [RowChange]) -> Option<&'x str>
+pub(crate) fn project_within<'x>(view: &StateRef<'_>, changes: &'x [RowChange]) -> Option<&'x str>
     ensures { option_copied result ≡ project_within view.now changes.now }
 {
     match project_of_all(view, changes) {
@@ -248,7 +250,11 @@ fn after_change<'x>(
 }
 
 /// The project of this name after these changes.
-fn project_after<'x>(view: &View<'x>, changes: &'x [RowChange], name: &str) -> Option<&'x Project>
+fn project_after<'x>(
+    view: &StateRef<'x>,
+    changes: &'x [RowChange],
+    name: &str,
+) -> Option<&'x Project>
     ensures { option_copied result ≡ project_named (applied view.now changes.now).projects name.now }
 {
     let mut project = view.project_named(name);
@@ -262,7 +268,7 @@ fn project_after<'x>(view: &View<'x>, changes: &'x [RowChange], name: &str) -> O
 
 /// The limits of the project of this name after these changes. They are read here, and nowhere else for changes within
 /// a project.
-fn limits_after(view: &View<'_>, changes: &[RowChange], name: &str) -> Option<Limits>
+fn limits_after(view: &StateRef<'_>, changes: &[RowChange], name: &str) -> Option<Limits>
     ensures { result ≡ limits_named (applied view.now changes.now).projects name.now }
 {
     match project_after(view, changes, name) {
@@ -272,7 +278,7 @@ fn limits_after(view: &View<'_>, changes: &[RowChange], name: &str) -> Option<Li
 }
 
 /// What a project uses of its limits.
-fn in_use(alloc: Global, view: &View<'_>, project: &str) -> Result<InUse, NoMemory>
+fn in_use(alloc: Global, view: &StateRef<'_>, project: &str) -> Result<InUse, NoMemory>
     ensures { IfOk result (λ used. used ≡ in_use view.now project.now) }
 {
     let amounts = usage_of(alloc, view, project)?;
@@ -283,7 +289,7 @@ fn in_use(alloc: Global, view: &View<'_>, project: &str) -> Result<InUse, NoMemo
 /// What the project uses before changes that leave it these limits. Where there is none, nothing is summed.
 fn use_before(
     alloc: Global,
-    view: &View<'_>,
+    view: &StateRef<'_>,
     project: &str,
     limits: Option<Limits>,
 ) -> Result<InUse, NoMemory>
@@ -302,7 +308,7 @@ fn use_before(
 /// The project of these changes, its limits after them, and what it uses before them.
 pub(crate) fn project_before(
     alloc: Global,
-    view: &View<'_>,
+    view: &StateRef<'_>,
     changes: &[RowChange],
     project: &str,
 ) -> Result<OneProject, NoMemory>
@@ -320,7 +326,7 @@ pub(crate) fn project_before(
 // ---- what is judged
 
 /// F1 to F7 of the project.
-fn policy_broken(alloc: Global, of: &OneProject, after: &View<'_>) -> Result<(), Or<Refusal>>
+fn policy_broken(alloc: Global, of: &OneProject, after: &StateRef<'_>) -> Result<(), Or<Refusal>>
     ensures { Says result (project_forbidden of.now.name after.now) }
 {
     let projects = rows_of(after.projects, of.name.view());
@@ -331,7 +337,7 @@ fn policy_broken(alloc: Global, of: &OneProject, after: &View<'_>) -> Result<(),
 fn limits_broken(
     alloc: Global,
     of: &OneProject,
-    after: &View<'_>,
+    after: &StateRef<'_>,
     project: &Limited<'_>,
 ) -> Result<(), Or<Refusal>>
     ensures { Says result (uses_over of.now.used (in_use after.now of.now.name) project.now) }
@@ -344,16 +350,17 @@ fn limits_broken(
 }
 
 /// L0 to L8 of the project, if it is there.
-#[tactic(auto, unfolding(crate::specs::Judged::project_uncounts, crate::specs::Judged::project_exceeds))]
-fn limits_judged(alloc: Global, of: &OneProject, after: &View<'_>) -> Result<(), Or<Refusal>>
+#[tactic(auto, unfolding(crate::specs::Judged::project_lacks_amount, crate::specs::Judged::project_exceeds))]
+fn limits_judged(alloc: Global, of: &OneProject, after: &StateRef<'_>) -> Result<(), Or<Refusal>>
     requires { of.now.limits ≡ limits_named after.now.projects of.now.name }
-    ensures { Says result (first (project_uncounts of.now.name after.now ∷ project_exceeds of.now.name of.now.used after.now
+    ensures { Says result
+        (first (project_lacks_amount of.now.name after.now ∷ project_exceeds of.now.name of.now.used after.now
         ∷ [])) }
 {
     let Some(project) = limited_named(after, of.name.view(), of.limits) else {
         return Ok(());
     };
-    project_uncounted(alloc, after, &project)?;
+    project_without_amount(alloc, after, &project)?;
     limits_broken(alloc, of, after, &project)
 }
 
@@ -361,7 +368,7 @@ fn limits_judged(alloc: Global, of: &OneProject, after: &View<'_>) -> Result<(),
 pub(crate) fn project_broken(
     alloc: Global,
     of: &OneProject,
-    after: &View<'_>,
+    after: &StateRef<'_>,
 ) -> Result<(), Or<Refusal>>
     requires { of.now.limits ≡ limits_named after.now.projects of.now.name }
     ensures { Says result (project_judged of.now.name of.now.used after.now) }

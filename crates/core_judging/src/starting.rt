@@ -8,17 +8,17 @@ ghost use Rattle.row_machine.specs.facts.Whole.{IsWhole};
 ghost use Rattle.size_values.specs.Causes.{Says};
 ghost use Rattle.rules_limits.specs.Limited.{limits_named};
 ghost use Rattle.rules_limits.specs.OneProject.{share_broken};
-ghost use Rattle.operations.specs.Kept.{enter_fault, kept_at};
+ghost use Rattle.operations.specs.OperationTable.{enter_fault, kept_at};
 ghost use Rattle.operations.specs.declared.operation.Operation.{Operation as OperationValue};
-ghost use Rattle.records.specs.declared.notices.Told.TheVariants as told_of;
+ghost use Rattle.records.specs.declared.notices.EventBody.TheVariants as body;
 ghost use Rattle.records.specs.declared.replies.Reply.TheVariants as reply;
 ghost use Rattle.core_drafts.specs.Background.{pending_of, holding};
 ghost use Rattle.size_values.specs.Amounts.{part};
 ghost use Rattle.size_values.specs.declared.amounts.Part.{Part};
 ghost use Rattle.core_drafts.specs.Drafted.{CanClaim};
 ghost use Rattle.row_machine.specs.machine.Claims.{share_of};
-ghost use Rattle.row_machine.specs.machine.Task.{Task};
-ghost use Rattle.row_machine.specs.machine.Work.{project_of_task};
+ghost use Rattle.row_machine.specs.machine.Task.{Task as TaskValue};
+ghost use Rattle.row_machine.specs.machine.Operations.{project_of_task};
 ghost use Rattle.row_machine.specs.shown.Notices.{view_of};
 ghost use Rattle.row_machine.specs.machine.Usage.{usage_of};
 ghost use Rattle.core_judging.specs.Judged.{claim_judged};
@@ -30,10 +30,10 @@ use instance_states::may_cancel;
 use operations::{EnterFault, OpFault, Status};
 use plain_lists::push_reserved;
 use project_limits::Limits;
-use records::{Command, OpView, Refusal, Reply, Row, Told, Untold};
-use row_machine::Work;
-use row_readings::{View, kept_at, project_of_row, share_of};
-use rules_limits::{claim_uncounts, limited_named, limits_named, share_broken};
+use records::{Command, EventBody, OpView, Refusal, Reply, Row, Untold};
+use row_machine::Task;
+use row_readings::{StateRef, kept_at, project_of_row, share_of};
+use rules_limits::{claim_lacks_amount, limited_named, limits_named, share_broken};
 use rules_policy::{claim_forbidden, snapshot_blocked};
 use rules_settings::claim_settings_broken;
 use rules_tables::{claim_tables_broken, enter_fault, refuse_entry};
@@ -55,7 +55,7 @@ pub struct PreparedStart {
 }
 
 /// The project whose limits an operation counts for.
-fn counted_project(work: &Work) -> &str
+fn counted_project(work: &Task) -> &str
     ensures { result.now ≡ project_of_task work.now }
 {
     match &work.claim {
@@ -65,7 +65,7 @@ fn counted_project(work: &Work) -> &str
 }
 
 /// How an operation is shown that waits for its first call.
-fn pending_view(alloc: Global, number: u64, work: &Work, moment: u64) -> Result<OpView, NoMemory>
+fn pending_view(alloc: Global, number: u64, work: &Task, moment: u64) -> Result<OpView, NoMemory>
     ensures { IfOk result (λ v. v ≡ view_of (pending_of number work.now moment)) }
 {
     let project = work.project.copy(alloc)?;
@@ -83,11 +83,11 @@ fn pending_view(alloc: Global, number: u64, work: &Work, moment: u64) -> Result<
 }
 
 /// The notice of an operation that waits for its first call.
-fn pending_notice(alloc: Global, number: u64, work: &Work, moment: u64) -> Result<Untold, NoMemory>
+fn pending_notice(alloc: Global, number: u64, work: &Task, moment: u64) -> Result<Untold, NoMemory>
     ensures { IfOk result (λ n. n ≡ record {
       moment = moment;
       project = work.now.project;
-      told = told_of.Op (view_of (pending_of number work.now moment));
+      body = body.Op (view_of (pending_of number work.now moment));
     }) }
 {
     let project = work.project.copy(alloc)?;
@@ -95,7 +95,7 @@ fn pending_notice(alloc: Global, number: u64, work: &Work, moment: u64) -> Resul
     Ok(Untold {
         moment,
         project,
-        told: Told::Op(shown),
+        body: EventBody::Op(shown),
     })
 }
 
@@ -103,7 +103,7 @@ fn pending_notice(alloc: Global, number: u64, work: &Work, moment: u64) -> Resul
 fn pending_view_and_notice(
     alloc: Global,
     number: u64,
-    work: &Work,
+    work: &Task,
     moment: u64,
 ) -> Result<(OpView, Untold), NoMemory>
     ensures shown { IfOk result (λ t. t.0 ≡ view_of (pending_of number work.now moment)) }
@@ -111,7 +111,7 @@ fn pending_view_and_notice(
         (λ t. t.1 ≡ record {
           moment = moment;
           project = work.now.project;
-          told = told_of.Op (view_of (pending_of number work.now moment));
+          body = body.Op (view_of (pending_of number work.now moment));
         }) }
 {
     let shown = pending_view(alloc, number, work, moment)?;
@@ -122,9 +122,9 @@ fn pending_view_and_notice(
 /// What the entry of an operation needs, read off the rows before it.
 fn beginning_of(
     alloc: Global,
-    view: &View<'_>,
+    view: &StateRef<'_>,
     totals: &mut Totals,
-    work: &Work,
+    work: &Task,
     moment: u64,
 ) -> Result<PreparedStart, NoMemory>
     requires whole { IsWhole view.now }
@@ -141,7 +141,7 @@ fn beginning_of(
     ensures notice { IfOk result (λ e. e.notice ≡ record {
       moment = moment;
       project = work.now.project;
-      told = told_of.Op (view_of (pending_of view.now.operations.next work.now moment));
+      body = body.Op (view_of (pending_of view.now.operations.next work.now moment));
     }) }
     ensures totals { AreTotals view.now totals.new }
 {
@@ -169,7 +169,7 @@ pub fn prepare_start(
     alloc: Global,
     draft: &mut Draft,
     totals: &mut Totals,
-    work: &Work,
+    work: &Task,
     moment: u64,
 ) -> Result<PreparedStart, NoMemory>
     requires whole { IsWhole draft.old.state }
@@ -188,7 +188,7 @@ pub fn prepare_start(
     ensures notice { IfOk result (λ e. e.notice ≡ record {
       moment = moment;
       project = work.now.project;
-      told = told_of.Op (view_of (pending_of draft.old.state.operations.next work.now moment));
+      body = body.Op (view_of (pending_of draft.old.state.operations.next work.now moment));
     }) }
     ensures totals { AreTotals draft.old.state totals.new }
     ensures ready { OnOk result (CanClaim draft.new) }
@@ -201,7 +201,7 @@ pub fn prepare_start(
 }
 
 /// The row that an operation would put.
-fn claim_of(work: &Work) -> Option<&Row>
+fn claim_of(work: &Task) -> Option<&Row>
     ensures { option_copied result ≡ work.now.claim }
 {
     match &work.claim {
@@ -215,9 +215,9 @@ fn claim_of(work: &Work) -> Option<&Row>
 fn judge_work(
     alloc: Global,
     beginning: &PreparedStart,
-    after: &View<'_>,
+    after: &StateRef<'_>,
     command: &Command,
-    work: &Work,
+    work: &Task,
 ) -> Result<(), Or<Refusal>>
     requires limits { beginning.now.limits ≡ limits_named after.now.projects beginning.now.project }
     requires used { (k : Part) → part k beginning.now.used ≤ 2 ^ 127 + 2 ^ 126 }
@@ -230,7 +230,7 @@ fn judge_work(
     claim_settings_broken(alloc, after, claim)?;
     claim_forbidden(alloc, after, work)?;
     snapshot_blocked(alloc, after, command)?;
-    claim_uncounts(alloc, after, &project, work)?;
+    claim_lacks_amount(alloc, after, &project, work)?;
     share_broken(alloc, &project, &beginning.used, &beginning.share)?;
     refuse_entry(alloc, beginning.fault)?;
     claim_tables_broken(alloc, after, claim)
@@ -241,7 +241,7 @@ fn judge_work(
 pub fn judge_claim(
     alloc: Global,
     beginning: &PreparedStart,
-    after: &View<'_>,
+    after: &StateRef<'_>,
     command: &Command,
     number: u64,
 ) -> Result<(), Or<Refusal>>
@@ -249,7 +249,7 @@ pub fn judge_claim(
     requires used { (k : Part) → part k beginning.now.used ≤ 2 ^ 127 + 2 ^ 126 }
     requires share { (k : Part) → part k beginning.now.share < 2 ^ 80 }
     ensures { Says result (option_and_then
-        (λ (o : OperationValue Task). claim_judged command.now after.now beginning.now.fault beginning.now.project
+        (λ (o : OperationValue TaskValue). claim_judged command.now after.now beginning.now.fault beginning.now.project
         beginning.now.used beginning.now.share o.work) (kept_at after.now.operations number)) }
 {
     match kept_at(after, number) {
@@ -274,7 +274,7 @@ pub fn commit_start(draft: &mut Draft, untold: &mut Vec<Waiting>, beginning: Pre
     ensures reply { result ≡ reply.Started beginning.shown }
 {
     draft.hold(beginning.project, beginning.share);
-    draft.settle();
+    draft.keep_changes();
     push_reserved(untold, Waiting::Whole(beginning.notice));
     Reply::Started(beginning.shown)
 }

@@ -16,7 +16,7 @@ use object_views::read;
 use plans_objects::plan_change;
 use record_keeper::Keeper;
 use records::{Command, Refusal, Reply, What};
-use row_readings::View;
+use row_readings::StateRef;
 use rules_conflicts::standing_broken;
 use rules_names::names_broken;
 use size_values::{MOMENT_LIMIT, NoMemory, Or};
@@ -58,7 +58,11 @@ fn speaks_of_no_row(asked: &What) -> bool
 /// The first rule that a command breaks on names and on what stands in the way. One that speaks of no row breaks none,
 /// and most requests of those who only look whether the server is there are such.
 #[tactic(auto, using(crate::proofs::FirstRules::unbroken))]
-pub fn first_broken(alloc: Global, view: &View<'_>, command: &Command) -> Result<(), Or<Refusal>>
+pub fn first_broken(
+    alloc: Global,
+    view: &StateRef<'_>,
+    command: &Command,
+) -> Result<(), Or<Refusal>>
     ensures { Says result (first (names_broken view.now command.now ∷ standing_broken view.now command.now ∷ [])) }
 {
     if speaks_of_no_row(&command.what) {
@@ -69,7 +73,7 @@ pub fn first_broken(alloc: Global, view: &View<'_>, command: &Command) -> Result
 }
 
 /// What a read is answered, once it breaks no rule.
-pub fn answer_read(alloc: Global, view: &View<'_>, command: &Command) -> Reply
+pub fn answer_read(alloc: Global, view: &StateRef<'_>, command: &Command) -> Reply
     ensures { IsAnswer result (read view.now command.now.project command.now.what) }
 {
     match read(alloc, view, &command.project, &command.what) {

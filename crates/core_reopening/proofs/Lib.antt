@@ -1,3 +1,3 @@
 pub mod Typed
 pub mod Together
-pub mod Told
+pub mod Contents

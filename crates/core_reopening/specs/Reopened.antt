@@ -8,4 +8,4 @@ use Rattle.row_machine.specs.opening.Opening.{opened, opening_of}
 -- the entries of a store, where it tells them, open to the rows of this state, as a server has them that was ended and
 -- opened again
 abbrev pub OpensAgain : State → Store → Type 0
-OpensAgain state store = IfSome store.told (λ entries. opening_of entries ≡ opened (reopened state))
+OpensAgain state store = IfSome store.contents (λ entries. opening_of entries ≡ opened (reopened state))

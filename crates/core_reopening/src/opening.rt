@@ -12,10 +12,10 @@ use crate::rows::{
     projects_are_typed, snapshots_are_typed, volumes_are_typed,
 };
 use machine_laws::kept_rows_open;
-use row_readings::View;
+use row_readings::StateRef;
 
 /// The rows of every kind have it by their types that they can be kept.
-pub(crate) fn rows_are_typed(view: &View<'_>)
+pub(crate) fn rows_are_typed(view: &StateRef<'_>)
     ensures { Each HasTypedParts (rows_of view.now) }
 {
     projects_are_typed(view.projects);
@@ -29,7 +29,7 @@ pub(crate) fn rows_are_typed(view: &View<'_>)
 
 /// The records of rows in which all facts hold open to these rows again: no entry is damaged, and no rule of opening is
 /// broken. Every instance is stopped then, and there are no operations and no notices. It does nothing but look.
-pub fn view_opens_again(view: &View<'_>)
+pub fn view_opens_again(view: &StateRef<'_>)
     requires { IsWhole view.now }
     ensures { opening_of (records_of view.now) ≡ opened (reopened view.now) }
 {

@@ -1,7 +1,7 @@
 //! What the keeper of a server has opens again, at every moment: a function that changes nothing, whose contract says
 //! it.
 ghost use Rattle.std.specs.Prelude.{◌≡◌};
-ghost use Rattle.core_turns.specs.core_rows.specs.Opening.{AreTold, OpensTo};
+ghost use Rattle.core_turns.specs.core_rows.specs.Opening.{AreContents, OpensTo};
 ghost use Rattle.machine_laws.specs.Reopening.{reopened};
 ghost use Rattle.record_keeper.specs.Store.{Store};
 ghost use Rattle.core_reopening.specs.Reopened.{OpensAgain};
@@ -20,10 +20,10 @@ use machine_laws::kept_rows_open;
 /// (`turned`). No condition is made. It does nothing but look.
 pub fn daemon_opens_again(daemon: &Daemon)
     ensures records { opening_of (records_of daemon.now) ≡ opened (reopened daemon.now) }
-    ensures kept { (store : Store) → AreTold (records_of daemon.now) store → OpensAgain daemon.now store }
+    ensures kept { (store : Store) → AreContents (records_of daemon.now) store → OpensAgain daemon.now store }
     ensures begun { (before now : Store) → OpensTo daemon.now before now → OpensAgain daemon.now now }
-    ensures turned { (s : State) (before now : Store) → AreTold (records_of s) before
-        → KeepsRecords before.told s now.told daemon.now → OpensAgain daemon.now now }
+    ensures turned { (s : State) (before now : Store) → AreContents (records_of s) before
+        → KeepsRecords before.contents s now.contents daemon.now → OpensAgain daemon.now now }
 {
     rows_are_typed(&daemon.view());
     kept_rows_open();

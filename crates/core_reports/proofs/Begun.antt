@@ -6,12 +6,12 @@ use Rattle.row_machine.specs.Words.{calls_of}
 use Rattle.host_model.specs.declared.call.HostCall.{HostCall}
 use Rattle.operations.specs.declared.operation.Operation.{Operation}
 use Rattle.operations.specs.declared.status.Status.TheVariants as status
-use Rattle.operations.specs.Kept.{Kept, live_at, kept_at, first_pending_of}
+use Rattle.operations.specs.OperationTable.{OperationTable, live_at, kept_at, first_pending_of}
 use Rattle.records.specs.declared.notices.Untold.{Untold}
 use Rattle.row_machine.specs.machine.Task.{Task}
 use Rattle.row_machine.specs.machine.State.{State}
 use Rattle.row_machine.specs.machine.Step.{first_pending}
-use Rattle.row_machine.specs.machine.Work.{with_task, moved, handing_out}
+use Rattle.row_machine.specs.machine.Operations.{with_task, moved, handing_out}
 use Rattle.row_machine.specs.facts.Whole.{IsWhole, IsUnderWay, calls_out}
 use Rattle.machine_laws.proofs.Base.{live-mem, first-live}
 use Rattle.machine_laws.proofs.CancelsBegin.{live-kept}
@@ -125,7 +125,7 @@ begun-is s s1 s2 number moment call h is made hands = record {
 -- ---- what is told
 
 -- an operation that is kept is told as it is
-pub shown-told : (k : Kept Task) (o : Operation Task) (number moment : ℕ) → o.number ≡ number → kept_at k number ≡ Some o
+pub shown-told : (k : OperationTable Task) (o : Operation Task) (number moment : ℕ) → o.number ≡ number → kept_at k number ≡ Some o
     → map (told_by k) (shown_at k number moment) ≡ notice_of o moment ∷ []
 shown-told k o number moment numbered kept =
     ap (λ (x : Option (Operation Task)). map (told_by k) (option_to_list (option_map (shown_as moment) x))) kept

@@ -12,12 +12,12 @@ use Rattle.operations.specs.declared.operation.OpFault.{OpFault}
 use Rattle.operations.specs.declared.operation.OpFault.TheVariants as fault
 use Rattle.operations.specs.declared.status.Status.{Status}
 use Rattle.operations.specs.declared.status.Status.TheVariants as status
-use Rattle.operations.specs.Kept.{live_at, kept_at}
+use Rattle.operations.specs.OperationTable.{live_at, kept_at}
 use Rattle.record_keeper.specs.Store.{Store}
 use Rattle.records.specs.declared.notices.Untold.{Untold}
 use Rattle.row_machine.specs.machine.Task.{Task}
 use Rattle.row_machine.specs.machine.State.{State}
-use Rattle.row_machine.specs.machine.Work.{with_task, one_more_done, undone, failed, cancelled}
+use Rattle.row_machine.specs.machine.Operations.{with_task, one_more_done, undone, failed, cancelled}
 use Rattle.row_machine.specs.facts.Whole.{IsWhole}
 use Rattle.machine_laws.proofs.Base.{live-mem, live-number}
 use Rattle.machine_laws.proofs.BooksSteps.{failure-keeps}

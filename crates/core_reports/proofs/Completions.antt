@@ -10,15 +10,15 @@ use Rattle.operations.specs.declared.operation.Operation.{Operation}
 use Rattle.operations.specs.declared.operation.OpFault.{OpFault}
 use Rattle.operations.specs.declared.operation.OpFault.TheVariants as fault
 use Rattle.operations.specs.declared.status.Status.TheVariants as status
-use Rattle.operations.specs.Kept.{Kept, live_at, kept_at}
+use Rattle.operations.specs.OperationTable.{OperationTable, live_at, kept_at}
 use Rattle.record_keeper.specs.Store.{Store}
 use Rattle.records.specs.declared.notices.Untold.{Untold}
 use Rattle.row_machine.specs.declared.changes.RowChange.{RowChange}
 use Rattle.row_machine.specs.machine.Changes.{applied}
 use Rattle.row_machine.specs.machine.Task.{Task}
 use Rattle.row_machine.specs.machine.State.{State}
-use Rattle.row_machine.specs.machine.Work.{converted, ended, failed, power_after, succeeded, success_changes}
-use Rattle.row_machine.specs.machine.Work.{with_power_after}
+use Rattle.row_machine.specs.machine.Operations.{converted, ended, failed, power_after, succeeded, success_changes}
+use Rattle.row_machine.specs.machine.Operations.{with_power_after}
 use Rattle.row_machine.specs.shown.Notices.{success_notices}
 use Rattle.row_machine.specs.facts.Whole.{IsWhole}
 use Rattle.machine_laws.specs.Entries.{entry_changes}
@@ -42,7 +42,7 @@ use Rattle.core_reports.proofs.Powers.{failed-over}
 use Rattle.core_reports.proofs.Reporting.{as_ended, succeeded-kept}
 use Rattle.core_reports.proofs.Reports.{last-unmade-reported, last-failed-reported, succeeded-reported}
 use Rattle.core_reports.proofs.Silent.{applied-silent}
-use Rattle.core_reports.proofs.Successes.{HasFailed, few-notices, uncommitted, stored-well, failures-well, told-well}
+use Rattle.core_reports.proofs.Successes.{HasFailed, few-notices, uncommitted, stored-well, failures-well, contents-well}
 use Rattle.core_reports.proofs.Successes.{stored-unmade, after-unmade, failed-so}
 use Rattle.core_reports.proofs.Turning.{HasLast}
 
@@ -60,7 +60,7 @@ succeeded-next : (s : State) (o : Operation Task) (moment : ℕ)
     → (succeeded s o moment).operations.next ≡ s.operations.next
 unfolding succeeded
 succeeded-next s o moment =
-    ap (λ (k : Kept Task). k.next)
+    ap (λ (k : OperationTable Task). k.next)
     (applied-operations (success_changes s o.work) (with_power_after o.work (power_after s o.work) s)
     ∙ power_after-operations o.work (power_after s o.work) s)
 
@@ -82,7 +82,7 @@ succeeded-by s t s' o number moment e numbered is powered made =
     (sym numbered)
 
 -- whole notices that wait before others are told as they are
-told-whole : (k : Kept Task) (ns : List Untold) (ws : List Waiting)
+told-whole : (k : OperationTable Task) (ns : List Untold) (ws : List Waiting)
     → map (told_by k) (map waits.Whole ns ++ ws) ≡ ns ++ map (told_by k) ws
 told-whole k [] ws = refl
 told-whole k (n ∷ ns) ws = ap (λ xs. n ∷ xs) (told-whole k ns ws)
@@ -208,7 +208,7 @@ module _ (s : State) (number moment : ℕ) (h : IsWhole s) (quiet : IsSilent s) 
         (map (told_by s'.operations) waiting) h own n.running.status n.calls store store'
         (stored-well cs e.entries store store' is.entries u stored)
         (failures-well cs e.entries store store' is.entries u stored)
-        (told-well cs e.entries store store' is.entries u stored) so told);
+        (contents-well cs e.entries store store' is.entries u stored) so told);
     whole = subst IsWhole (sym so) (success-keeps s o moment early
         (record { whole = h; live = own; status = n.running.status }) n.calls);
     silent = subst IsSilent (sym so) (succeeded-silent s o moment quiet);

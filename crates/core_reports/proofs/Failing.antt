@@ -4,11 +4,11 @@ use Rattle.std.specs.Option.{option_map}
 use Rattle.operations.specs.declared.operation.Operation.{Operation}
 use Rattle.operations.specs.declared.operation.OpFault.{OpFault}
 use Rattle.operations.specs.declared.status.Status.TheVariants as status
-use Rattle.operations.specs.Kept.{has_number, live_at}
+use Rattle.operations.specs.OperationTable.{has_number, live_at}
 use Rattle.row_machine.specs.machine.Task.{Task}
 use Rattle.row_machine.specs.machine.State.{State}
 use Rattle.size_values.specs.declared.kinds.Power.{Power}
-use Rattle.row_machine.specs.machine.Work.{after_failure, ended, failed, is_held_by, returned, with_power}
+use Rattle.row_machine.specs.machine.Operations.{after_failure, ended, failed, is_held_by, returned, with_power}
 use Rattle.row_machine.specs.facts.Whole.{IsWhole, held_by}
 use Rattle.machine_laws.proofs.Base.{live-number}
 use Rattle.machine_laws.proofs.EndsLive.{find-map}

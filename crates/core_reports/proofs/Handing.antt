@@ -9,8 +9,8 @@ use Rattle.host_model.specs.declared.report.Report.TheVariants as report
 use Rattle.operations.specs.declared.operation.Operation.{Operation}
 use Rattle.operations.specs.declared.status.Status.{Status}
 use Rattle.operations.specs.declared.status.Status.TheVariants.{Running, Cancelling}
-use Rattle.operations.specs.Kept.{has_number, live_at, kept_at}
-use Rattle.records.specs.declared.notices.Told.TheVariants as told_as
+use Rattle.operations.specs.OperationTable.{has_number, live_at, kept_at}
+use Rattle.records.specs.declared.notices.EventBody.TheVariants as body
 use Rattle.records.specs.declared.notices.Untold.{Untold}
 use Rattle.row_machine.specs.declared.events.Answer.TheVariants as answer
 use Rattle.row_machine.specs.declared.events.Event.TheVariants as event
@@ -18,14 +18,14 @@ use Rattle.row_machine.specs.machine.Task.{Task}
 use Rattle.row_machine.specs.machine.State.{State}
 use Rattle.row_machine.specs.machine.Accept.{and_then, with_operation_notice}
 use Rattle.row_machine.specs.machine.Step.{well, step, first_pending, taken, handed_out, done, reported, call_done, while_cancelling}
-use Rattle.row_machine.specs.machine.Work.{with_task, moved, handing_out, one_more_done, undone}
+use Rattle.row_machine.specs.machine.Operations.{with_task, moved, handing_out, one_more_done, undone}
 use Rattle.row_machine.specs.shown.Notices.{telling, view_of}
 use Rattle.machine_laws.proofs.CancelsBegin.{live-kept}
 use Rattle.core_reports.specs.Jobs.{IsTaken}
 
 -- the notice of an operation as it is
 abbrev pub notice_of : Operation Task → ℕ → Untold
-notice_of o moment = record { moment = moment; project = o.work.project; told = told_as.Op (view_of o) }
+notice_of o moment = record { moment = moment; project = o.work.project; body = body.Op (view_of o) }
 
 -- an operation that is kept is told
 pub told-kept : (s : State) (o : Operation Task) (number moment : ℕ) → kept_at s.operations number ≡ Some o → with_operation_notice s number moment ≡ telling (notice_of o moment ∷ []) s

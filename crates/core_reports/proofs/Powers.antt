@@ -10,9 +10,9 @@ use Rattle.operations.specs.declared.operation.Operation.{Operation}
 use Rattle.operations.specs.declared.operation.OpFault.{OpFault}
 use Rattle.operations.specs.declared.status.Status.TheVariants as status
 use Rattle.row_machine.specs.machine.Task.{Task}
-use Rattle.row_machine.specs.machine.State.{State, Standing}
-use Rattle.row_machine.specs.machine.Rows.{is_standing}
-use Rattle.row_machine.specs.machine.Work.{with_power, with_power_after, power_after, after_failure, failed, returned, ended}
+use Rattle.row_machine.specs.machine.State.{State, InstancePower}
+use Rattle.row_machine.specs.machine.Rows.{is_power_of}
+use Rattle.row_machine.specs.machine.Operations.{with_power, with_power_after, power_after, after_failure, failed, returned, ended}
 
 -- a second change of the first that passes, which the first change leaves passing
 changed-twice : {X : Type 0} (p : X → Bool) (f g : X → X) (xs : List X) → ((x : X) → p (f x) ≡ p x) → ((x : X) → g (f x) ≡ g x)
@@ -28,7 +28,7 @@ changed-twice {X} p f g (y ∷ ys) keeps over = at (p y) refl (changed-twice p f
 power-over : (s : State) (project name : List ℕ) (one other : Power) → with_power (with_power s project name one) project name other ≡ with_power s project name other
 power-over s project name one other =
     ap (λ powers. record s { powers = powers })
-    (changed-twice (is_standing project name) (λ (p : Standing). record p { power = one }) (λ (p : Standing). record p { power = other }) s.powers
+    (changed-twice (is_power_of project name) (λ (p : InstancePower). record p { power = one }) (λ (p : InstancePower). record p { power = other }) s.powers
     (λ x. refl) (λ x. refl))
 
 -- after a failure of a deed that was to give a status, its instance is in an unknown state, whatever it was given

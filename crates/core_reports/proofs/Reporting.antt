@@ -7,7 +7,7 @@ use Rattle.operations.specs.declared.operation.OpFault.{OpFault}
 use Rattle.operations.specs.declared.operation.OpFault.TheVariants as fault
 use Rattle.operations.specs.declared.status.Status.{Status}
 use Rattle.operations.specs.declared.status.Status.TheVariants as status
-use Rattle.operations.specs.Kept.{Kept, live_at, kept_at, ends}
+use Rattle.operations.specs.OperationTable.{OperationTable, live_at, kept_at, ends}
 use Rattle.operations.specs.Facts.{AreKept}
 use Rattle.records.specs.declared.notices.Untold.{Untold}
 use Rattle.row_machine.specs.declared.events.Answer.TheVariants as answer
@@ -16,7 +16,7 @@ use Rattle.row_machine.specs.machine.Task.{Task}
 use Rattle.row_machine.specs.machine.State.{State}
 use Rattle.row_machine.specs.machine.Accept.{After, and_then, with_operation_notice}
 use Rattle.row_machine.specs.machine.Step.{Outcome, well, step, done, reported, while_running, call_done, committed, while_cancelling, failure, success}
-use Rattle.row_machine.specs.machine.Work.{failed, succeeded, cancelled, success_changes, power_after, with_power_after}
+use Rattle.row_machine.specs.machine.Operations.{failed, succeeded, cancelled, success_changes, power_after, with_power_after}
 use Rattle.row_machine.specs.shown.Notices.{telling, success_notices}
 use Rattle.machine_laws.proofs.BooksSteps.{telling-keeps, failure-keeps, applied-same}
 use Rattle.machine_laws.proofs.EndsLive.{found-ended}
@@ -42,7 +42,7 @@ module _ (s : State) (o : Operation Task) (moment : ℕ) (kept : AreKept s.opera
   pub failed-kept : (why : OpFault) (count : ℕ) → kept_at (failed s o why count moment).operations o.number ≡ Some (as_ended o status.Failure why moment)
   unfolding failed
   failed-kept why count =
-      ap (λ (k : Kept Task). kept_at (ends o.number status.Failure why moment k) o.number)
+      ap (λ (k : OperationTable Task). kept_at (ends o.number status.Failure why moment k) o.number)
       (failure-keeps (λ t. t.operations ≡ s.operations) (λ t powers e. e) o.work count s refl)
       ∙ found-ended s.operations o.number status.Failure why moment o kept live
 
@@ -53,7 +53,7 @@ module _ (s : State) (o : Operation Task) (moment : ℕ) (kept : AreKept s.opera
   pub succeeded-kept : kept_at (succeeded s o moment).operations o.number ≡ Some (as_ended o status.Success fault.None moment)
   unfolding succeeded
   succeeded-kept =
-      ap (λ (k : Kept Task). kept_at (ends o.number status.Success fault.None moment k) o.number)
+      ap (λ (k : OperationTable Task). kept_at (ends o.number status.Success fault.None moment k) o.number)
       ((applied-same (success_changes s o.work) (with_power_after o.work (power_after s o.work) s)).operations
       ∙ power_after-operations o.work (power_after s o.work) s)
       ∙ found-ended s.operations o.number status.Success fault.None moment o kept live
@@ -83,7 +83,7 @@ module _ (s : State) (o : Operation Task) (moment : ℕ) (kept : AreKept s.opera
   success-is s' untold made tells =
       ap (and_then (answer.Ended o.number))
       (told-kept (telling (success_notices o.work moment) (succeeded s o moment)) (as_ended o status.Success fault.None moment) o.number moment
-      (ap (λ (k : Kept Task). kept_at k o.number) (told-operations (success_notices o.work moment) (succeeded s o moment)) ∙ succeeded-kept)
+      (ap (λ (k : OperationTable Task). kept_at k o.number) (told-operations (success_notices o.work moment) (succeeded s o moment)) ∙ succeeded-kept)
       ∙ telling-after (success_notices o.work moment) (notice_of (as_ended o status.Success fault.None moment) moment ∷ []) (succeeded s o moment)
       ∙ ap (telling (success_notices o.work moment ++ notice_of (as_ended o status.Success fault.None moment) moment ∷ [])) (sym made)
       ∙ ap (λ ns. telling ns s') (sym tells))

@@ -11,7 +11,7 @@ use Rattle.operations.specs.declared.operation.OpFault.{OpFault}
 use Rattle.operations.specs.declared.operation.OpFault.TheVariants as fault
 use Rattle.operations.specs.declared.status.Status.{Status}
 use Rattle.operations.specs.declared.status.Status.TheVariants as status
-use Rattle.operations.specs.Kept.{live_at}
+use Rattle.operations.specs.OperationTable.{live_at}
 use Rattle.record_keeper.specs.Entries.{after_changes}
 use Rattle.record_keeper.specs.Store.{Store, FailsAtCall, IsAfterUpTo}
 use Rattle.records.specs.declared.notices.Untold.{Untold}
@@ -22,7 +22,7 @@ use Rattle.row_machine.specs.machine.Task.{Task}
 use Rattle.row_machine.specs.machine.State.{State}
 use Rattle.row_machine.specs.machine.Accept.{and_then}
 use Rattle.row_machine.specs.machine.Step.{well, keeper_failed, no_memory, step, done, reported, committed, failure}
-use Rattle.row_machine.specs.machine.Work.{with_task, one_more_done, undone, failed, succeeded, cancelled, success_changes}
+use Rattle.row_machine.specs.machine.Operations.{with_task, one_more_done, undone, failed, succeeded, cancelled, success_changes}
 use Rattle.row_machine.specs.opening.Records.{records_of}
 use Rattle.row_machine.specs.shown.Notices.{telling, success_notices}
 use Rattle.row_machine.specs.facts.Whole.{IsWhole}
@@ -33,7 +33,7 @@ use Rattle.core_reports.specs.Jobs.{changes_reported, changes_by, changes_while,
 use Rattle.core_reports.specs.Stores.{Stores}
 use Rattle.core_reports.specs.declared.jobs.Turned.{Turned}
 use Rattle.core_reports.specs.declared.jobs.Turned.TheVariants as turned
-use Rattle.core_reports.proofs.Stores.{failures-same, told-same}
+use Rattle.core_reports.proofs.Stores.{failures-same, contents-same}
 use Rattle.core_reports.proofs.Handing.{notice_of, next-step, undo-step}
 use Rattle.core_reports.proofs.Reporting.{as_ended, failure-is, cancelled-is, success-is, running-step, last-step, cancelled-step}
 
@@ -164,8 +164,8 @@ module _ (s : State) (o : Operation Task) (moment : ℕ) (s' : State) (untold : 
     at-last = of-live s o report.Done status.Running live runs ∙ ap (changes_at_last s o) none
 
     -- what told the records goes on to
-    failed-keeps : (why : OpFault) (store store' : Store) → store'.told ≡ store.told → s' ≡ failed s o why (o.work.done + 1) moment
-        → (start : Option (List Entry)) → store.told ≡ option_map (λ _. records_of s) start → store'.told ≡ option_map (λ _. records_of s') start
+    failed-keeps : (why : OpFault) (store store' : Store) → store'.contents ≡ store.contents → s' ≡ failed s o why (o.work.done + 1) moment
+        → (start : Option (List Entry)) → store.contents ≡ option_map (λ _. records_of s) start → store'.contents ≡ option_map (λ _. records_of s') start
     failed-keeps why store store' same made start told =
         same ∙ told ∙ ap (λ rs. option_map (λ _. rs) start) (sym (ap records_of made ∙ records-failed s o why (o.work.done + 1) moment))
 
@@ -180,7 +180,7 @@ module _ (s : State) (o : Operation Task) (moment : ℕ) (s' : State) (untold : 
       is = last-step s o moment h.operations.kept live no_memory runs none
           ∙ unmade (success_changes s o.work)
           ∙ ap Some (failure-is s o moment h.operations.kept live fault.NoMemory (o.work.done + 1) s' untold made told);
-      kept = failed-keeps fault.NoMemory store store' (told-same store store' after) made;
+      kept = failed-keeps fault.NoMemory store store' (contents-same store store' after) made;
     } where
       unmade : (cs : List RowChange) → committed s o moment no_memory cs ≡ Some (failure s o fault.NoMemory (o.work.done + 1) moment)
       unmade [] = refl
@@ -198,13 +198,13 @@ module _ (s : State) (o : Operation Task) (moment : ℕ) (s' : State) (untold : 
       is = last-step s o moment h.operations.kept live (keeper_failed rise) runs none
           ∙ ap (committed s o moment (keeper_failed rise)) some
           ∙ ap Some (failure-is s o moment h.operations.kept live (fault.Keeper rise.before rise.after) (o.work.done + 1) s' untold made told);
-      kept = failed-keeps (fault.Keeper rise.before rise.after) store store' fails.told made;
+      kept = failed-keeps (fault.Keeper rise.before rise.after) store store' fails.contents made;
     }
 
     -- ---- it ends as Success
 
     pub succeeded-reported : (store store' : Store) → Stores (success_changes s o.work) well store store' → store'.failures ≡ store.failures
-        → store'.told ≡ option_map (after_changes (entry_changes (success_changes s o.work))) store.told
+        → store'.contents ≡ option_map (after_changes (entry_changes (success_changes s o.work))) store.contents
         → s' ≡ succeeded s o moment → untold ≡ success_notices o.work moment ++ notice_of (as_ended o status.Success fault.None moment) moment ∷ []
         → IsReported s o.number report.Done moment s' untold turned.Ended store store'
     succeeded-reported store store' stored failures entries made told = record {

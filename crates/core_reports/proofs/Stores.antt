@@ -8,6 +8,6 @@ failures-same store store' (inl is) = ap (λ (x : Store). x.failures) is
 failures-same store store' (inr is) = ap (λ (x : Store). x.failures) is
 
 -- and what is told of the entries
-pub told-same : (store store' : Store) → IsAfterUpTo 1 store store' → store'.told ≡ store.told
-told-same store store' (inl is) = ap (λ (x : Store). x.told) is
-told-same store store' (inr is) = ap (λ (x : Store). x.told) is
+pub contents-same : (store store' : Store) → IsAfterUpTo 1 store store' → store'.contents ≡ store.contents
+contents-same store store' (inl is) = ap (λ (x : Store). x.contents) is
+contents-same store store' (inr is) = ap (λ (x : Store). x.contents) is

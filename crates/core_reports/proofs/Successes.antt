@@ -12,7 +12,7 @@ use Rattle.size_values.specs.declared.kinds.Deed.{Deed}
 use Rattle.size_values.specs.declared.kinds.Deed.TheVariants as deed
 use Rattle.operations.specs.declared.operation.Operation.{Operation}
 use Rattle.operations.specs.declared.operation.OpFault.TheVariants as fault
-use Rattle.operations.specs.Kept.{live_at}
+use Rattle.operations.specs.OperationTable.{live_at}
 use Rattle.record_keeper.specs.Store.{Store, FailsAtCall, IsAfterUpTo}
 use Rattle.record_keeper.specs.Entries.{after_changes}
 use Rattle.row_codec.proofs.ShortParts.{short-parts}
@@ -20,7 +20,7 @@ use Rattle.row_machine.specs.declared.changes.RowChange.{RowChange}
 use Rattle.row_machine.specs.machine.Task.{Task}
 use Rattle.row_machine.specs.machine.State.{State}
 use Rattle.row_machine.specs.machine.Step.{well, no_memory}
-use Rattle.row_machine.specs.machine.Work.{success_changes}
+use Rattle.row_machine.specs.machine.Operations.{success_changes}
 use Rattle.row_machine.specs.shown.Notices.{deed_lives, life_notice, object_told, success_notices}
 use Rattle.row_machine.specs.facts.Whole.{IsWhole}
 use Rattle.machine_laws.specs.Entries.{entry_changes}
@@ -95,17 +95,17 @@ module _ (cs : List RowChange) (es : List EntryChange) (store store' : Store) (m
     at [] is = ap (λ (x : Store). x.failures) is
     at (e ∷ es) is = ap (λ (x : Store). x.failures) is
 
-  pub told-well : (u : Unit {0}) → CommitsSome (Ok u) es store store'
-      → store'.told ≡ option_map (after_changes (entry_changes cs)) store.told
-  told-well u is = at es is ∙ ap (λ (xs : List EntryChange). option_map (after_changes xs) store.told) made where
+  pub contents-well : (u : Unit {0}) → CommitsSome (Ok u) es store store'
+      → store'.contents ≡ option_map (after_changes (entry_changes cs)) store.contents
+  contents-well u is = at es is ∙ ap (λ (xs : List EntryChange). option_map (after_changes xs) store.contents) made where
     none : (told : Option (List Entry)) → told ≡ option_map (after_changes []) told
     none None = refl
     none (Some entries) = refl
 
     at : (es : List EntryChange) → CommitsSome (Ok u) es store store'
-        → store'.told ≡ option_map (after_changes es) store.told
-    at [] is = ap (λ (x : Store). x.told) is ∙ none store.told
-    at (e ∷ es) is = ap (λ (x : Store). x.told) is
+        → store'.contents ≡ option_map (after_changes es) store.contents
+    at [] is = ap (λ (x : Store). x.contents) is ∙ none store.contents
+    at (e ∷ es) is = ap (λ (x : Store). x.contents) is
 
   -- memory was refused
   pub stored-unmade : CommitsSome {T = Unit {0}} (Err fault.NoMemory) es store store' → Stores cs no_memory store store'

@@ -6,7 +6,7 @@ use Rattle.host_model.specs.declared.report.Report.TheVariants as report
 use Rattle.operations.specs.declared.operation.Operation.{Operation}
 use Rattle.operations.specs.declared.status.Status.{Status}
 use Rattle.operations.specs.declared.status.Status.TheVariants.{Running}
-use Rattle.operations.specs.Kept.{live_at}
+use Rattle.operations.specs.OperationTable.{live_at}
 use Rattle.record_keeper.specs.Store.{Store}
 use Rattle.records.specs.declared.notices.Untold.{Untold}
 use Rattle.row_machine.specs.declared.changes.RowChange.{RowChange}
@@ -17,7 +17,7 @@ use Rattle.row_machine.specs.machine.Task.{Task}
 use Rattle.row_machine.specs.machine.State.{State}
 use Rattle.row_machine.specs.machine.Accept.{and_then}
 use Rattle.row_machine.specs.machine.Step.{Outcome, well, step, first_pending}
-use Rattle.row_machine.specs.machine.Work.{success_changes}
+use Rattle.row_machine.specs.machine.Operations.{success_changes}
 use Rattle.row_machine.specs.shown.Notices.{telling}
 use Rattle.core_reports.specs.Stores.{IsCaused, Stores, KeepsRecords}
 use Rattle.core_reports.specs.declared.jobs.Turned.{Turned}
@@ -68,4 +68,4 @@ pub record IsReported (state : State) (op : ℕ) (report : Report) (moment : ℕ
   pub stored : Stores (changes_reported state op report) outcome store store'
   pub is : step state (event.Done op report moment) outcome
       ≡ Some (and_then (answer_of op result) (telling untold later))
-  pub kept : KeepsRecords store.told state store'.told later
+  pub kept : KeepsRecords store.contents state store'.contents later

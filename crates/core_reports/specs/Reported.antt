@@ -7,7 +7,7 @@ use Rattle.record_keeper.specs.Store.{Store, FailsAtCall, IsAfterUpTo, after_com
 use Rattle.size_values.specs.declared.entry.EntryChange.{EntryChange}
 use Rattle.row_machine.specs.machine.Task.{Task}
 use Rattle.row_machine.specs.machine.State.{State}
-use Rattle.row_machine.specs.machine.Work.{power_after, success_changes}
+use Rattle.row_machine.specs.machine.Operations.{power_after, success_changes}
 use Rattle.row_machine.specs.shown.Notices.{success_notices}
 use Rattle.row_machine.specs.facts.Whole.{IsWhole}
 use Rattle.machine_laws.specs.Entries.{entry_changes}

@@ -28,8 +28,8 @@ Stores (change ∷ changes) (keeper_failed rise) before now =
     FailsAtCall 1 before now × (rise.before ≡ before.failures) × (rise.after ≡ now.failures)
 Stores (change ∷ changes) no_memory before now = IsAfterUpTo 1 before now
 
--- what told the records of the old state tells those of the new one, and goes on to tell or not to tell
+-- contents that were the records of the old state are those of the new one; what showed none goes on to show none
 abbrev pub KeepsRecords : Option (List Entry) → State → Option (List Entry) → State → Type 0
-KeepsRecords told state told' later =
-    (start : Option (List Entry)) → told ≡ option_map (λ _. records_of state) start
-    → told' ≡ option_map (λ _. records_of later) start
+KeepsRecords contents state contents' later =
+    (start : Option (List Entry)) → contents ≡ option_map (λ _. records_of state) start
+    → contents' ≡ option_map (λ _. records_of later) start

@@ -8,11 +8,11 @@ use Rattle.host_model.specs.declared.report.Report.TheVariants as report
 use Rattle.operations.specs.declared.operation.OpFault.TheVariants as fault
 use Rattle.operations.specs.declared.status.Status.{Status}
 use Rattle.operations.specs.declared.status.Status.TheVariants.{Running, Cancelling}
-use Rattle.operations.specs.Kept.{Kept, kept_at}
+use Rattle.operations.specs.OperationTable.{OperationTable, kept_at}
 use Rattle.row_machine.specs.machine.Task.{Task}
 use Rattle.row_machine.specs.machine.State.{State}
 use Rattle.row_machine.specs.machine.Step.{first_pending}
-use Rattle.row_machine.specs.machine.Work.{with_task, moved, handing_out}
+use Rattle.row_machine.specs.machine.Operations.{with_task, moved, handing_out}
 use Rattle.core_reports.specs.declared.turns.Turn.{Turn}
 use Rattle.core_reports.specs.declared.turns.Turn.TheVariants as turn
 use Rattle.core_reports.specs.declared.waiting.Waiting.{Waiting}
@@ -31,7 +31,7 @@ shown_as moment operation = waiting.Shown record {
 }
 
 -- the operation of a number, if it is kept
-abbrev pub shown_at : Kept Task → ℕ → ℕ → List Waiting
+abbrev pub shown_at : OperationTable Task → ℕ → ℕ → List Waiting
 shown_at operations number moment = option_to_list (option_map (shown_as moment) (kept_at operations number))
 
 -- the first operation that waits runs, and its first call was handed out

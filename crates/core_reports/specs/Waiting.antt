@@ -4,9 +4,9 @@ use Rattle.std.specs.Prelude.{◌≡◌, ℕ, List, [], Option}
 use Rattle.std.specs.Option.{option_map_or}
 use Rattle.size_values.specs.declared.kinds.ObjectKind.TheVariants as kind
 use Rattle.operations.specs.declared.operation.Operation.{Operation}
-use Rattle.operations.specs.Kept.{Kept, kept_at}
+use Rattle.operations.specs.OperationTable.{OperationTable, kept_at}
 use Rattle.records.specs.declared.commands.Target.{Target}
-use Rattle.records.specs.declared.notices.Told.TheVariants as told
+use Rattle.records.specs.declared.notices.EventBody.TheVariants as body
 use Rattle.records.specs.declared.notices.Untold.{Untold}
 use Rattle.row_machine.specs.machine.Task.{Task}
 use Rattle.row_machine.specs.machine.State.{State}
@@ -31,7 +31,7 @@ abbrev pub told_of : Option (Operation Task) → Shown → Untold
 told_of kept shown = record {
   moment = shown.moment;
   project = project_shown kept;
-  told = told.Op record {
+  body = body.Op record {
     number = shown.number;
     status = shown.status;
     may_cancel = shown.may_cancel;
@@ -44,7 +44,7 @@ told_of kept shown = record {
 }
 
 -- the notice that waits
-abbrev pub told_by : Kept Task → Waiting → Untold
+abbrev pub told_by : OperationTable Task → Waiting → Untold
 told_by operations (waiting.Whole notice) = notice
 told_by operations (waiting.Shown shown) = told_of (kept_at operations shown.number) shown
 

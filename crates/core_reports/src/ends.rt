@@ -1,21 +1,21 @@
 //! The ends of operations that fail or were cancelled. None of it takes memory.
 ghost use Rattle.std.specs.Prelude.{◌≡◌, [], Some, IsSome, false, find};
 ghost use Rattle.std.specs.Option.{option_map_or};
-ghost use Rattle.operations.specs.Kept.{live_at};
+ghost use Rattle.operations.specs.OperationTable.{live_at};
 ghost use Rattle.operations.specs.declared.operation.Operation.{Operation as OperationValue};
 ghost use Rattle.row_machine.specs.machine.Deeds.{breaks_instance};
 ghost use Rattle.row_machine.specs.machine.Task.{Task};
-ghost use Rattle.row_machine.specs.machine.Work.{after_failure, cancelled, failed, is_held_by};
+ghost use Rattle.row_machine.specs.machine.Operations.{after_failure, cancelled, failed, is_held_by};
 
 use crate::turns::live_at;
 use core_drafts::Draft;
 use operations::{OpFault, Status};
 use plans_ends::breaks_instance;
-use row_readings::View;
+use row_readings::StateRef;
 use size_values::Power;
 
 /// Whether a failure of the live operation of a number leaves its instance in an unknown state.
-fn breaks_at(view: &View<'_>, number: u64) -> bool
+fn breaks_at(view: &StateRef<'_>, number: u64) -> bool
     ensures { result ≡ option_map_or (λ (o : OperationValue Task). breaks_instance o.work.deed)
         (live_at view.now.operations number) false }
 {
@@ -58,7 +58,7 @@ pub(crate) fn fail(draft: &mut Draft, number: u64, why: OpFault, done: u32, mome
 }
 
 /// A live operation ends as cancelled, and its share goes back.
-#[tactic(auto, unfolding(row_machine::specs::machine::Work::cancelled))]
+#[tactic(auto, unfolding(row_machine::specs::machine::Operations::cancelled))]
 pub fn cancel(draft: &mut Draft, number: u64, moment: u64)
     requires settled { draft.old.log ≡ [] }
     requires live { IsSome (live_at draft.old.state.operations number) }

@@ -2,7 +2,7 @@
 ghost use Rattle.std.specs.Prelude.{◌≡◌, ◌<◌, ◌≤◌, ◌++◌, [], Some, find, vec_len, vec_capacity};
 ghost use Rattle.std.specs.Option.{option_copied};
 ghost use Rattle.operations.specs.Statuses.{is_pending};
-ghost use Rattle.operations.specs.Kept.{first_pending_of};
+ghost use Rattle.operations.specs.OperationTable.{first_pending_of};
 ghost use Rattle.row_machine.specs.facts.Whole.{IsWhole};
 ghost use Rattle.core_reports.specs.Turns.{shown_as, shown_at, IsBegun};
 
@@ -11,8 +11,8 @@ use core_drafts::Draft;
 use host_model::HostCall;
 use operations::{Operation, Status};
 use plain_lists::push_reserved;
-use row_machine::Work;
-use row_readings::{View, kept_at};
+use row_machine::Task;
+use row_readings::{StateRef, kept_at};
 
 /// What a report comes to.
 #[derive(Drop)]
@@ -26,7 +26,7 @@ pub enum Turned {
 }
 
 /// An operation as it waits to be told.
-fn shown_as(operation: &Operation<Work>, moment: u64) -> Waiting
+fn shown_as(operation: &Operation<Task>, moment: u64) -> Waiting
     ensures { result ≡ shown_as moment operation.now }
 {
     Waiting::Shown(Shown {
@@ -41,7 +41,7 @@ fn shown_as(operation: &Operation<Work>, moment: u64) -> Waiting
 }
 
 /// Leaves an operation to be told as it now stands. It takes no memory.
-pub fn tell(untold: &mut Vec<Waiting>, view: &View<'_>, number: u64, moment: u64)
+pub fn queue_event(untold: &mut Vec<Waiting>, view: &StateRef<'_>, number: u64, moment: u64)
     requires room { vec_len untold.old < vec_capacity untold.old }
     ensures items { untold.new.items ≡ untold.old.items ++ shown_at view.now.operations number moment }
     ensures capacity { vec_capacity untold.old ≤ vec_capacity untold.new }
@@ -67,14 +67,14 @@ pub fn is_pending(status: Status) -> bool
 }
 
 /// The first operation that waits for its first call.
-fn first_waiting<'x>(operations: &'x [Operation<Work>]) -> Option<&'x Operation<Work>>
+fn first_waiting<'x>(operations: &'x [Operation<Task>]) -> Option<&'x Operation<Task>>
     ensures { option_copied result ≡ find (λ o. is_pending o.status) operations.now }
 {
     operations.iter().find(|o| is_pending(o.status))
 }
 
 /// The number of the first operation that waits for its first call.
-pub fn first_pending(view: &View<'_>) -> Option<u64>
+pub fn first_pending(view: &StateRef<'_>) -> Option<u64>
     ensures { result ≡ first_pending_of view.now.operations }
 {
     match first_waiting(view.live) {

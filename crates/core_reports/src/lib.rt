@@ -12,7 +12,7 @@ mod waiting;
 
 pub use ends::cancel;
 pub use entries::{default_profile, entry_changes};
-pub use jobs::{Turned, begin, first_pending, is_pending, tell};
+pub use jobs::{Turned, begin, first_pending, is_pending, queue_event};
 pub use reported::take_report;
 pub use turns::live_at;
 pub use waiting::{Shown, Waiting, told_by};

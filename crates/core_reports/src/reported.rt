@@ -2,11 +2,11 @@
 ghost use Rattle.std.specs.Prelude.{◌≡◌, ◌+◌, ◌<◌, ◌≤◌, ◌++◌, [], Some, IsSome, find, vec_len, vec_capacity};
 ghost use Rattle.std.specs.Option.{option_map_or};
 ghost use Rattle.host_model.specs.declared.report.Report.TheVariants as report_of;
-ghost use Rattle.operations.specs.Kept.{live_at};
+ghost use Rattle.operations.specs.OperationTable.{live_at};
 ghost use Rattle.operations.specs.declared.operation.Operation.{Operation as OperationValue};
 ghost use Rattle.row_machine.specs.facts.Whole.{IsWhole};
 ghost use Rattle.row_machine.specs.machine.Task.{Task};
-ghost use Rattle.row_machine.specs.machine.Work.{cancelled, failed, is_held_by};
+ghost use Rattle.row_machine.specs.machine.Operations.{cancelled, failed, is_held_by};
 ghost use Rattle.size_values.specs.Moments.{moment_limit};
 ghost use Rattle.core_reports.specs.Waiting.{IsSilent, untold_limit};
 ghost use Rattle.core_reports.specs.Reported.{IsTurned};
@@ -15,7 +15,7 @@ ghost use Rattle.core_reports.specs.declared.jobs.Turned.TheVariants as turned_a
 ghost use Rattle.core_reports.specs.declared.turns.Turn.TheVariants as turn_as;
 
 use crate::ends::{cancel, fail};
-use crate::jobs::{Turned, tell};
+use crate::jobs::{Turned, queue_event};
 use crate::success::{carry_out, make_ending, succeed};
 use crate::turns::{Turn, live_at, turn_of};
 use crate::waiting::Waiting;
@@ -23,11 +23,11 @@ use core_drafts::Draft;
 use host_model::Report;
 use operations::OpFault;
 use record_keeper::Keeper;
-use row_readings::View;
+use row_readings::StateRef;
 use std::alloc::Global;
 
 /// How many calls of the live operation of a number were done.
-fn calls_done(view: &View<'_>, number: u64) -> u32
+fn calls_done(view: &StateRef<'_>, number: u64) -> u32
     ensures { result ≡ option_map_or (λ (o : OperationValue Task). o.work.done) (live_at view.now.operations number) 0 }
 {
     match live_at(view, number) {
@@ -57,7 +57,7 @@ fn end_failed(
     ensures greatest { draft.new.backing.greatest ≡ draft.old.backing.greatest }
 {
     fail(draft, number, why, done, moment);
-    tell(untold, &draft.view(), number, moment);
+    queue_event(untold, &draft.view(), number, moment);
 }
 
 /// A live operation ends as cancelled, and is left to be told.
@@ -73,7 +73,7 @@ fn end_cancelled(draft: &mut Draft, untold: &mut Vec<Waiting>, number: u64, mome
     ensures greatest { draft.new.backing.greatest ≡ draft.old.backing.greatest }
 {
     cancel(draft, number, moment);
-    tell(untold, &draft.view(), number, moment);
+    queue_event(untold, &draft.view(), number, moment);
 }
 
 /// The last call of an operation that runs was done: it succeeds, or fails where its rows are not committed. It takes

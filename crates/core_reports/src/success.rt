@@ -3,15 +3,15 @@
 ghost use Rattle.std.specs.Prelude.{◌≡◌, ◌+◌, ◌<◌, ◌≤◌, ◌++◌, [], Some, IsSome, IfOk, OnOk, find, map, length, vec_len};
 ghost use Rattle.std.specs.Prelude.{vec_capacity};
 ghost use Rattle.std.specs.List.{AllByRecursion};
-ghost use Rattle.operations.specs.Kept.{live_at};
+ghost use Rattle.operations.specs.OperationTable.{live_at};
 ghost use Rattle.operations.specs.declared.operation.OpFault.TheVariants as fault;
 ghost use Rattle.operations.specs.declared.operation.Operation.{Operation as OperationValue};
 ghost use Rattle.operations.specs.declared.status.Status.TheVariants as status;
 ghost use Rattle.core_drafts.specs.Drafted.{IsReady};
 ghost use Rattle.row_machine.specs.facts.Whole.{IsWhole};
 ghost use Rattle.row_machine.specs.machine.Changes.{applied};
-ghost use Rattle.row_machine.specs.machine.Task.{Task};
-ghost use Rattle.row_machine.specs.machine.Work.{converted, ended, is_held_by, success_changes, with_power_after};
+ghost use Rattle.row_machine.specs.machine.Task.{Task as TaskValue};
+ghost use Rattle.row_machine.specs.machine.Operations.{converted, ended, is_held_by, success_changes, with_power_after};
 ghost use Rattle.machine_laws.specs.Entries.{entry_changes};
 ghost use Rattle.core_reports.specs.Entries.{HasEntry};
 ghost use Rattle.core_reports.specs.Reported.{CommitsSome, IsEndingOf};
@@ -19,7 +19,7 @@ ghost use Rattle.core_reports.specs.Turns.{shown_at};
 ghost use Rattle.core_reports.specs.declared.waiting.Waiting.TheVariants as waiting_of;
 
 use crate::entries::entry_changes;
-use crate::jobs::tell;
+use crate::jobs::queue_event;
 use crate::turns::live_at;
 use crate::waiting::Waiting;
 use core_drafts::Draft;
@@ -28,8 +28,8 @@ use plain_lists::push_reserved;
 use plans_ends::{power_after, success_changes, success_notices};
 use record_keeper::Keeper;
 use records::Untold;
-use row_machine::{RowChange, Work};
-use row_readings::View;
+use row_machine::{RowChange, Task};
+use row_readings::StateRef;
 use size_values::{EntryChange, NoMemory, Or, Power, Seq};
 use std::alloc::Global;
 
@@ -46,8 +46,8 @@ pub(crate) struct Ending {
 /// The changes of rows at a success, with those of their entries.
 fn changes_of(
     alloc: Global,
-    view: &View<'_>,
-    work: &Work,
+    view: &StateRef<'_>,
+    work: &Task,
 ) -> Result<(Seq<RowChange>, Seq<EntryChange>), NoMemory>
     requires { AllByRecursion HasEntry (success_changes view.now work.now) }
     ensures changes { IfOk result (λ x. x.0 ≡ success_changes view.now work.now) }
@@ -64,7 +64,12 @@ fn changes_of(
 }
 
 /// What the success of a deed needs, read off the rows before it.
-fn ending_of(alloc: Global, view: &View<'_>, work: &Work, moment: u64) -> Result<Ending, NoMemory>
+fn ending_of(
+    alloc: Global,
+    view: &StateRef<'_>,
+    work: &Task,
+    moment: u64,
+) -> Result<Ending, NoMemory>
     requires { AllByRecursion HasEntry (success_changes view.now work.now) }
     ensures { IfOk result (IsEndingOf view.now work.now moment) }
 {
@@ -86,13 +91,13 @@ fn ending_of(alloc: Global, view: &View<'_>, work: &Work, moment: u64) -> Result
 /// What the success of the live operation of a number needs, read off the rows before it.
 pub(crate) fn make_ending(
     alloc: Global,
-    view: &View<'_>,
+    view: &StateRef<'_>,
     number: u64,
     moment: u64,
 ) -> Result<Ending, NoMemory>
     requires whole { IsWhole view.now }
     requires live { IsSome (live_at view.now.operations number) }
-    ensures { IfOk result (λ e. (o : OperationValue Task) → live_at view.now.operations number ≡ Some o
+    ensures { IfOk result (λ e. (o : OperationValue TaskValue) → live_at view.now.operations number ≡ Some o
         → IsEndingOf view.now o.work moment e) }
 {
     match live_at(view, number) {
@@ -105,7 +110,7 @@ pub(crate) fn make_ending(
 fn give_power(draft: &mut Draft, number: u64, power: Option<Power>)
     requires settled { draft.old.log ≡ [] }
     requires live { IsSome (live_at draft.old.state.operations number) }
-    ensures state { (o : OperationValue Task) → live_at draft.old.state.operations number ≡ Some o →
+    ensures state { (o : OperationValue TaskValue) → live_at draft.old.state.operations number ≡ Some o →
         draft.new.state ≡ with_power_after o.work power draft.old.state }
     ensures operations { draft.new.state.operations ≡ draft.old.state.operations }
     ensures held { draft.new.state.held ≡ draft.old.state.held }
@@ -149,7 +154,7 @@ pub(crate) fn carry_out<R: Keeper>(
     requires live { IsSome (live_at draft.old.state.operations number) }
     ensures stored { CommitsSome result ending.now.entries (R.store keeper.old) (R.store keeper.new) }
     ensures ready { OnOk result (IsReady draft.new ending.now.changes) }
-    ensures state { (o : OperationValue Task) → live_at draft.old.state.operations number ≡ Some o →
+    ensures state { (o : OperationValue TaskValue) → live_at draft.old.state.operations number ≡ Some o →
         draft.new.state ≡ with_power_after o.work ending.now.power draft.old.state }
     ensures operations { draft.new.state.operations ≡ draft.old.state.operations }
     ensures held { draft.new.state.held ≡ draft.old.state.held }
@@ -175,13 +180,13 @@ fn make_success(draft: &mut Draft, number: u64, changes: Seq<RowChange>, moment:
     ensures greatest { draft.new.backing.greatest ≡ draft.old.backing.greatest }
 {
     draft.apply(changes);
-    draft.settle();
+    draft.keep_changes();
     draft.end(number, Status::Success, OpFault::None, moment);
     draft.convert(number);
 }
 
 /// Leaves notices to be told, in their order. It takes no memory.
-fn tell_all(untold: &mut Vec<Waiting>, notices: Seq<Untold>)
+fn queue_events(untold: &mut Vec<Waiting>, notices: Seq<Untold>)
     requires room { vec_len untold.old + length notices ≤ vec_capacity untold.old }
     ensures items { untold.new.items ≡ untold.old.items ++ map waiting_of.Whole notices }
     ensures capacity { vec_capacity untold.old ≤ vec_capacity untold.new }
@@ -220,6 +225,6 @@ pub(crate) fn succeed(
 {
     drop(ending.entries);
     make_success(draft, number, ending.changes, moment);
-    tell_all(untold, ending.notices);
-    tell(untold, &draft.view(), number, moment);
+    queue_events(untold, ending.notices);
+    queue_event(untold, &draft.view(), number, moment);
 }

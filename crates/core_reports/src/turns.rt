@@ -1,15 +1,15 @@
 //! What comes of the report of a call, before anything changes.
 ghost use Rattle.std.specs.Prelude.{◌≡◌, ◌+◌, ◌<◌, IfSome};
 ghost use Rattle.std.specs.Option.{option_copied};
-ghost use Rattle.operations.specs.Kept.{live_at};
+ghost use Rattle.operations.specs.OperationTable.{live_at};
 ghost use Rattle.operations.specs.declared.operation.Operation.{Operation as OperationValue};
-ghost use Rattle.row_machine.specs.machine.Task.{Task};
+ghost use Rattle.row_machine.specs.machine.Task.{Task as TaskValue};
 ghost use Rattle.core_reports.specs.Turns.{turn_running, turn_cancelling, turn_while, turn_of};
 
 use host_model::{HostCall, Report};
 use operations::{OpFault, Operation, Status};
-use row_machine::Work;
-use row_readings::View;
+use row_machine::Task;
+use row_readings::StateRef;
 
 /// What comes of the report of a call.
 #[derive(Clone, Copy)]
@@ -29,14 +29,14 @@ pub(crate) enum Turn {
 }
 
 /// The live operation of a number.
-pub fn live_at<'x>(view: &View<'x>, number: u64) -> Option<&'x Operation<Work>>
+pub fn live_at<'x>(view: &StateRef<'x>, number: u64) -> Option<&'x Operation<Task>>
     ensures { option_copied result ≡ live_at view.now.operations number }
 {
     view.live.iter().find(|o| o.number == number)
 }
 
 /// Of an operation that runs, of which so many calls were done before the one that is reported.
-fn turn_running(work: &Work, report: Report) -> Turn
+fn turn_running(work: &Task, report: Report) -> Turn
     requires { work.now.done + 1 < 256 }
     ensures { result ≡ turn_running work.now report }
 {
@@ -67,7 +67,7 @@ fn turn_cancelling(undo: &Option<HostCall>) -> Turn
     }
 }
 
-fn turn_while(operation: &Operation<Work>, report: Report) -> Turn
+fn turn_while(operation: &Operation<Task>, report: Report) -> Turn
     requires { operation.now.work.done + 1 < 256 }
     ensures { result ≡ turn_while operation.now report operation.now.status }
 {
@@ -79,8 +79,8 @@ fn turn_while(operation: &Operation<Work>, report: Report) -> Turn
 }
 
 /// What comes of a report of the operation of a number.
-pub(crate) fn turn_of(view: &View<'_>, number: u64, report: Report) -> Turn
-    requires { IfSome (live_at view.now.operations number) (λ (o : OperationValue Task). o.work.done + 1 < 256) }
+pub(crate) fn turn_of(view: &StateRef<'_>, number: u64, report: Report) -> Turn
+    requires { IfSome (live_at view.now.operations number) (λ (o : OperationValue TaskValue). o.work.done + 1 < 256) }
     ensures { result ≡ turn_of (live_at view.now.operations number) report }
 {
     match live_at(view, number) {

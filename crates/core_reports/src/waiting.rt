@@ -5,9 +5,9 @@ ghost use Rattle.core_reports.specs.Waiting.{told_by, project_shown, target_show
 ghost use Rattle.core_reports.specs.declared.waiting.Waiting.TheVariants as waiting_of;
 
 use operations::{OpFault, Operation, Status};
-use records::{OpView, Target, Told, Untold};
-use row_machine::Work;
-use row_readings::{View, kept_at};
+use records::{EventBody, OpView, Target, Untold};
+use row_machine::Task;
+use row_readings::{StateRef, kept_at};
 use size_values::{NoMemory, ObjectKind, Text};
 use std::alloc::Global;
 
@@ -43,7 +43,7 @@ fn no_target(alloc: Global) -> Target
 }
 
 /// The project of an operation.
-fn project_shown(alloc: Global, kept: Option<&Operation<Work>>) -> Result<Text, NoMemory>
+fn project_shown(alloc: Global, kept: Option<&Operation<Task>>) -> Result<Text, NoMemory>
     ensures { IfOk result (λ t. t ≡ project_shown (option_copied kept.entry)) }
 {
     match kept {
@@ -53,7 +53,7 @@ fn project_shown(alloc: Global, kept: Option<&Operation<Work>>) -> Result<Text, 
 }
 
 /// The target of an operation.
-fn target_shown(alloc: Global, kept: Option<&Operation<Work>>) -> Result<Target, NoMemory>
+fn target_shown(alloc: Global, kept: Option<&Operation<Task>>) -> Result<Target, NoMemory>
     ensures { IfOk result (λ t. t ≡ target_shown (option_copied kept.entry)) }
 {
     match kept {
@@ -63,7 +63,7 @@ fn target_shown(alloc: Global, kept: Option<&Operation<Work>>) -> Result<Target,
 }
 
 /// The notice that shows an operation.
-fn notice_shown(alloc: Global, view: &View<'_>, shown: Shown) -> Result<Untold, NoMemory>
+fn notice_shown(alloc: Global, view: &StateRef<'_>, shown: Shown) -> Result<Untold, NoMemory>
     ensures { IfOk result (λ n. n ≡ told_by view.now.operations (waiting_of.Shown shown)) }
 {
     let kept = kept_at(view, shown.number);
@@ -73,7 +73,7 @@ fn notice_shown(alloc: Global, view: &View<'_>, shown: Shown) -> Result<Untold, 
     Ok(Untold {
         moment: shown.moment,
         project: home,
-        told: Told::Op(OpView {
+        body: EventBody::Op(OpView {
             number: shown.number,
             status: shown.status,
             may_cancel: shown.may_cancel,
@@ -90,16 +90,16 @@ fn copy_notice(alloc: Global, notice: &Untold) -> Result<Untold, NoMemory>
     ensures { IfOk result (λ n. n ≡ notice.now) }
 {
     let project = notice.project.copy(alloc)?;
-    let told = notice.told.copy(alloc)?;
+    let body = notice.body.copy(alloc)?;
     Ok(Untold {
         moment: notice.moment,
         project,
-        told,
+        body,
     })
 }
 
 /// A notice that waits, of its own.
-pub fn told_by(alloc: Global, view: &View<'_>, waiting: &Waiting) -> Result<Untold, NoMemory>
+pub fn told_by(alloc: Global, view: &StateRef<'_>, waiting: &Waiting) -> Result<Untold, NoMemory>
     ensures { IfOk result (λ n. n ≡ told_by view.now.operations waiting.now) }
 {
     match waiting {

@@ -34,7 +34,7 @@ use Rattle.core_rows.specs.Asked.{IsAsked, changes_at_once, changes_of, unless_r
 use Rattle.core_judging.specs.Judged.{changes_judged, reply_for}
 use Rattle.core_rows.specs.Planned.{Follows, IsToDo}
 use Rattle.core_judging.specs.core_reports.specs.Stores.{Stores}
-use Rattle.core_judging.specs.core_reports.proofs.Stores.{failures-same, told-same}
+use Rattle.core_judging.specs.core_reports.proofs.Stores.{failures-same, contents-same}
 use Rattle.core_judging.specs.Commits.{Commits}
 use Rattle.core_rows.proofs.Judging.{left-broken}
 use Rattle.core_rows.proofs.Stepping.{changes-step, refused-step, failed-step, no_memory-step}
@@ -140,7 +140,7 @@ follows-uncommitted s c moment cs untold (or.Why r) store store' h failed none =
         ∙ ap (λ x. Some (and_then (answer.Reply (reply.Refused x)) s)) (sym failed.0)
         ∙ ap (λ ns. Some (and_then (answer.Reply (reply.Refused r)) (telling ns s))) (sym none);
   };
-  kept = λ start is. failed.1.told ∙ is;
+  kept = λ start is. failed.1.contents ∙ is;
 } where
   rise : Rise
   rise = record { before = store.failures; after = store'.failures; rose = failed.1.rose }
@@ -148,7 +148,7 @@ follows-uncommitted s c moment cs untold or.NoMemory store store' h after none =
   asked = asked-no-memory s c moment s untold store store' refl none (failures-same store store' after)
       (subst (λ xs. Stores xs no_memory store store') (sym (changes_of-free s c moment cs h.plan h.unbroken))
       (stored-no-memory cs store store' (some-changes s cs (at_once h)) after));
-  kept = λ start is. told-same store store' after ∙ is;
+  kept = λ start is. contents-same store store' after ∙ is;
 }
 
 -- entries that are the records of the old state, after these changes
@@ -173,7 +173,7 @@ follows-made s c moment cs n s' untold store store' h notices committed made tol
         ∙ ap (λ t. Some (and_then (answer.Reply reply.Empty) (telling untold t))) (sym made);
   };
   kept = λ start is.
-      ap (λ (x : Store). x.told) committed
+      ap (λ (x : Store). x.contents) committed
       ∙ ap (option_map (after_changes (entry_changes cs))) is
       ∙ tells-after s c moment cs start h
       ∙ ap (λ t. option_map (λ _. records_of t) start) (sym made);

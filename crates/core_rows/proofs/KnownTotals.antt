@@ -9,14 +9,14 @@ use Rattle.host_model.specs.declared.call.HostCall.{HostCall}
 use Rattle.host_model.specs.declared.report.Report.{Report}
 use Rattle.operations.specs.declared.operation.Operation.{Operation}
 use Rattle.operations.specs.declared.status.Status.TheVariants as status
-use Rattle.operations.specs.Kept.{live_at, kept_at}
+use Rattle.operations.specs.OperationTable.{live_at, kept_at}
 use Rattle.operations.specs.Statuses.{is_pending}
 use Rattle.record_keeper.specs.Store.{Store}
 use Rattle.records.specs.declared.notices.Untold.{Untold}
 use Rattle.row_machine.specs.declared.events.Answer.TheVariants as answer
 use Rattle.row_machine.specs.machine.State.{State}
 use Rattle.row_machine.specs.machine.Task.{Task}
-use Rattle.row_machine.specs.machine.Work.{held_share, handing_out, entered, project_of_task}
+use Rattle.row_machine.specs.machine.Operations.{held_share, handing_out, entered, project_of_task}
 use Rattle.row_machine.specs.machine.Claims.{share_of}
 use Rattle.row_machine.specs.shown.Notices.{telling}
 use Rattle.row_machine.specs.facts.Whole.{IsWhole}

@@ -3,7 +3,7 @@ use Rattle.std.proofs.Common.{◌≡◌, ◌≢◌, ◌<◌, ℕ, zero, suc, Lis
 use Rattle.plain_lists.specs.Members.{Each}
 use Rattle.plain_lists.proofs.Elements.{Each-none, Each-cons}
 use Rattle.size_values.specs.declared.entry.Entry.{Entry}
-use Rattle.operations.specs.Kept.{no_operations}
+use Rattle.operations.specs.OperationTable.{no_operations}
 use Rattle.records.specs.declared.rows.Row.{Row}
 use Rattle.row_codec.proofs.Fields.{IsBytes}
 use Rattle.row_machine.specs.machine.State.{State, empty_state}

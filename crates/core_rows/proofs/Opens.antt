@@ -10,8 +10,8 @@ use Rattle.row_machine.specs.machine.Plans.{put_all}
 use Rattle.row_machine.specs.machine.State.{State}
 use Rattle.machine_laws.specs.Entries.{entry_changes}
 use Rattle.machine_laws.proofs.OpeningKept.{opening-entries}
-use Rattle.core_rows.specs.Kept.{Kept}
-use Rattle.core_rows.specs.Opening.{Opens, Refuses, Loads, GoesOn, AreTold, first_state, opened_store}
+use Rattle.core_rows.specs.EstateView.{EstateView}
+use Rattle.core_rows.specs.Opening.{Opens, Refuses, Loads, GoesOn, AreContents, first_state, opened_store}
 use Rattle.core_rows.specs.declared.opening.OpenFault.{OpenFault}
 use Rattle.core_rows.specs.declared.opening.OpenFault.TheVariants as fault
 
@@ -23,7 +23,7 @@ two_calls n = omega arith
 
 -- the second call failed
 second_fails : (a c : Store) → FailsAtCall 1 (after_calls 1 a) c → FailsAtCall 2 a c
-second_fails a c h = record { told = h.told; calls = h.calls ∙ two_calls a.calls; later = h.later; rose = h.rose }
+second_fails a c h = record { contents = h.contents; calls = h.calls ∙ two_calls a.calls; later = h.later; rose = h.rose }
 
 after_two : (a : Store) → after_calls 1 (after_calls 1 a) ≡ after_calls 2 a
 after_two a = λ i. record a { calls = two_calls a.calls i }
@@ -47,8 +47,8 @@ first_kept None none = refl
 first_kept (Some entries) none = ap (λ es. Some (after_changes (entry_changes (put_all first_rows)) es)) none ∙ ap Some first-records
 
 -- a load that found nothing, and then the first commit
-committed_first : (a : Store) → AreTold [] a → after_commit (entry_changes (put_all first_rows)) (after_calls 1 a) ≡ opened_store [] first_state a
-committed_first a none = λ i. record { told = first_kept a.told none i; calls = two_calls a.calls i; failures = a.failures }
+committed_first : (a : Store) → AreContents [] a → after_commit (entry_changes (put_all first_rows)) (after_calls 1 a) ≡ opened_store [] first_state a
+committed_first a none = λ i. record { contents = first_kept a.contents none i; calls = two_calls a.calls i; failures = a.failures }
 
 -- no entries open to the first rows
 first-opening : opening_of [] ≡ opened first_state
@@ -58,27 +58,27 @@ first-opening = refl
 -- ---- entries that were there
 
 -- the records of the state are what is kept
-kept_told : (told : Option (List Entry)) (entries : List Entry) (s : State) → IfSome told (λ kept. kept ≡ entries) → records_of s ≡ entries
+kept_contents : (told : Option (List Entry)) (entries : List Entry) (s : State) → IfSome told (λ kept. kept ≡ entries) → records_of s ≡ entries
     → told ≡ option_map (λ _. records_of s) told
-kept_told None entries s are is = refl
-kept_told (Some kept) entries s are is = ap Some (are ∙ sym is)
+kept_contents None entries s are is = refl
+kept_contents (Some kept) entries s are is = ap Some (are ∙ sym is)
 
 -- a load alone
-loaded_again : (a : Store) (e : Entry) (es : List Entry) (s : State) → AreTold (e ∷ es) a → records_of s ≡ e ∷ es
+loaded_again : (a : Store) (e : Entry) (es : List Entry) (s : State) → AreContents (e ∷ es) a → records_of s ≡ e ∷ es
     → after_calls 1 a ≡ opened_store (e ∷ es) s a
-loaded_again a e es s told is = λ i. record { told = kept_told a.told (e ∷ es) s told is i; calls = called 1 a.calls; failures = a.failures }
+loaded_again a e es s told is = λ i. record { contents = kept_contents a.contents (e ∷ es) s told is i; calls = called 1 a.calls; failures = a.failures }
 
 is_some : (e : Entry) (es : List Entry) → e ∷ es ≢ []
 is_some e es = λ h. cc
 
 -- ---- an opening
 
-pub opened-after : (result : Result Kept OpenFault) (entries : List Entry) (a b c : Store)
+pub opened-after : (result : Result EstateView OpenFault) (entries : List Entry) (a b c : Store)
     → Loads (Ok entries) a b → GoesOn result entries b c → Opens result a c
 opened-after (Ok kept) [] a b c loads begins = (
   record {
     entries = [];
-    told = loads.0;
+    contents = loads.0;
     opens = first-opening ∙ ap opened (sym begins.0);
     after =
         begins.2
@@ -95,7 +95,7 @@ opened-after (Err (fault.Broken rule kind key)) [] a b c loads begins = absurd b
 opened-after (Ok kept) (e ∷ es) a b c loads goes = (
   record {
     entries = e ∷ es;
-    told = loads.0;
+    contents = loads.0;
     opens = goes.0.0;
     after =
         goes.1
@@ -107,9 +107,9 @@ opened-after (Ok kept) (e ∷ es) a b c loads goes = (
 opened-after (Err fault.KeeperFailed) (e ∷ es) a b c loads goes = absurd goes.0
 opened-after (Err fault.NoMemory) (e ∷ es) a b c loads goes = inr (inl (goes.1 ∙ loads.3))
 opened-after (Err (fault.Damaged kind key)) (e ∷ es) a b c loads goes =
-    record { entries = e ∷ es; told = loads.0; opens = goes.0; after = goes.1 ∙ loads.3 }
+    record { entries = e ∷ es; contents = loads.0; opens = goes.0; after = goes.1 ∙ loads.3 }
 opened-after (Err (fault.Broken rule kind key)) (e ∷ es) a b c loads goes =
-    record { entries = e ∷ es; told = loads.0; opens = goes.0; after = goes.1 ∙ loads.3 }
+    record { entries = e ∷ es; contents = loads.0; opens = goes.0; after = goes.1 ∙ loads.3 }
 
 -- the load failed or was out of memory
 pub refused-load : (why : OpenFault) (a b : Store) → Loads (Err why) a b → Refuses why a b

@@ -12,7 +12,7 @@ use Rattle.size_values.specs.declared.kinds.ObjectKind.{ObjectKind}
 use Rattle.size_values.specs.declared.kinds.ObjectKind.TheVariants as kind
 use Rattle.size_values.specs.declared.memory.Or.{Or}
 use Rattle.operations.specs.Facts.{AreKept}
-use Rattle.operations.specs.Kept.{has_number, kept_at, enter_fault}
+use Rattle.operations.specs.OperationTable.{has_number, kept_at, enter_fault}
 use Rattle.operations.specs.declared.faults.EnterFault.{EnterFault}
 use Rattle.operations.specs.declared.operation.Operation.{Operation}
 use Rattle.record_keeper.specs.Store.{Store}
@@ -20,7 +20,7 @@ use Rattle.records.specs.declared.commands.Body.{Body}
 use Rattle.records.specs.declared.commands.Command.{Command}
 use Rattle.records.specs.declared.commands.What.{What}
 use Rattle.records.specs.declared.commands.What.TheVariants as what
-use Rattle.records.specs.declared.notices.Told.TheVariants as told
+use Rattle.records.specs.declared.notices.EventBody.TheVariants as event_body
 use Rattle.records.specs.declared.notices.Untold.{Untold}
 use Rattle.records.specs.declared.refusals.Refusal.{Refusal}
 use Rattle.records.specs.declared.replies.Reply.{Reply}
@@ -32,7 +32,7 @@ use Rattle.row_machine.specs.declared.events.Answer.TheVariants as answer
 use Rattle.row_machine.specs.declared.events.Event.TheVariants as event
 use Rattle.row_machine.specs.facts.Whole.{IsWhole}
 use Rattle.row_machine.specs.machine.Accept.{After, and_then, accepted, carried_out, begun}
-use Rattle.row_machine.specs.machine.LimitRules.{counts_broken, limits_broken, instance_uncounted}
+use Rattle.row_machine.specs.machine.LimitRules.{counts_broken, limits_broken, instance_without_amount}
 use Rattle.row_machine.specs.machine.Plans.{starts, plan_of}
 use Rattle.row_machine.specs.machine.PolicyRules.{policy_broken, snapshot_blocked, forbids_instance}
 use Rattle.row_machine.specs.machine.Rules.{broken, plan_broken, standing_broken}
@@ -42,11 +42,11 @@ use Rattle.row_machine.specs.machine.Step.{well, after_command, step}
 use Rattle.row_machine.specs.machine.TableRules.{enter_refusal, entry_broken, tables_broken}
 use Rattle.row_machine.specs.machine.Task.{Task}
 use Rattle.row_machine.specs.machine.Claims.{share_of}
-use Rattle.row_machine.specs.machine.Work.{claiming, entered, project_of_task}
+use Rattle.row_machine.specs.machine.Operations.{claiming, entered, project_of_task}
 use Rattle.row_machine.specs.shown.Notices.{telling, view_of}
 use Rattle.row_machine.specs.machine.Usage.{usage_of}
 use Rattle.machine_laws.proofs.Cases.{IsAccepted}
-use Rattle.rules_limits.specs.OneProject.{claim_uncounts, share_broken}
+use Rattle.rules_limits.specs.OneProject.{claim_lacks_amount, share_broken}
 use Rattle.rules_policy.specs.Alone.{claim_forbidden}
 use Rattle.core_judging.specs.core_totals.specs.Alone.{IsJudgedAlone}
 use Rattle.core_judging.specs.core_totals.proofs.Alone.{judged-alone}
@@ -120,8 +120,8 @@ flat None None None None None None None = refl
 
 -- of the others, those that what is claimed breaks alone are those that the state with it breaks
 module _ (s : State) (task : Task) (moment : ℕ) (alone : IsJudgedAlone s task moment) where
-  counts-alone : counts_broken (claiming s task moment) ≡ claim_uncounts (claiming s task moment) (project_of_task task) task
-  unfolding instance_uncounted
+  counts-alone : counts_broken (claiming s task moment) ≡ claim_lacks_amount (claiming s task moment) (project_of_task task) task
+  unfolding instance_without_amount
   counts-alone = alone.counts
 
   policy-alone : policy_broken (claiming s task moment) ≡ claim_forbidden (claiming s task moment) task
@@ -153,7 +153,7 @@ left-claim s c moment task used whole d serves =
     ∙ ap (λ o. first (settings ∷ policy ∷ o ∷ counts ∷ limits ∷ entry ∷ tables ∷ [])) (sym (alike s task moment c.project c.what))
     ∙ ap (λ o. first (settings ∷ o ∷ blocked ∷ counts ∷ limits ∷ entry ∷ tables ∷ [])) (policy-alone s task moment alone)
     ∙ ap (λ o. first (settings ∷ claim_forbidden later task ∷ blocked ∷ o ∷ limits ∷ entry ∷ tables ∷ [])) (counts-alone s task moment alone)
-    ∙ ap (λ o. first (settings ∷ claim_forbidden later task ∷ blocked ∷ claim_uncounts later (project_of_task task) task ∷ o ∷ entry ∷ tables ∷ [])) (alone.limits ∙ sym serves)
+    ∙ ap (λ o. first (settings ∷ claim_forbidden later task ∷ blocked ∷ claim_lacks_amount later (project_of_task task) task ∷ o ∷ entry ∷ tables ∷ [])) (alone.limits ∙ sym serves)
 
 -- what is judged of a kept operation
 abbrev pub judged_at : Command → State → Option EnterFault → List ℕ → Amounts → Amounts → ℕ → Option Refusal
@@ -203,7 +203,7 @@ start-commits s c moment task h = ap (λ o. unless_refused o (plan_of s c moment
 
 -- the notice of an operation that waits for its first call
 abbrev pub notice_of : Operation Task → ℕ → Untold
-notice_of o moment = record { moment = moment; project = o.work.project; told = told.Op (view_of o) }
+notice_of o moment = record { moment = moment; project = o.work.project; body = event_body.Op (view_of o) }
 
 -- what is answered and told of the operation that was entered, by what is found of it
 abbrev begun_by : State → ℕ → Option (Operation Task) → After

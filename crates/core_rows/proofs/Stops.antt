@@ -9,7 +9,7 @@ use Rattle.size_values.specs.Causes.{Refuses}
 use Rattle.size_values.specs.Moments.{moment_limit}
 use Rattle.size_values.specs.declared.kinds.ObjectKind.TheVariants as kind
 use Rattle.size_values.specs.declared.memory.Or.{Or}
-use Rattle.operations.specs.Kept.{live_at, kept_at, cancel_answer}
+use Rattle.operations.specs.OperationTable.{live_at, kept_at, cancel_answer}
 use Rattle.operations.specs.Statuses.{is_live, is_pending, cancel_of}
 use Rattle.operations.specs.declared.operation.Operation.{Operation}
 use Rattle.operations.specs.declared.operation.OpFault.TheVariants as fault
@@ -34,7 +34,7 @@ use Rattle.row_machine.specs.machine.State.{State}
 use Rattle.row_machine.specs.machine.Step.{after_command, step, well}
 use Rattle.row_machine.specs.machine.TableRules.{cancel_broken, cancel_refusal}
 use Rattle.row_machine.specs.machine.Task.{Task}
-use Rattle.row_machine.specs.machine.Work.{cancelled, moved}
+use Rattle.row_machine.specs.machine.Operations.{cancelled, moved}
 use Rattle.row_machine.specs.opening.Records.{records_of}
 use Rattle.row_machine.specs.shown.Notices.{telling}
 use Rattle.machine_laws.proofs.Base.{live-number}

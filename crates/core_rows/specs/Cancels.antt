@@ -1,11 +1,11 @@
 -- What a cancel makes of a live operation.
 use Rattle.std.specs.Prelude.{ℕ, Bool, true, false}
 use Rattle.std.specs.Option.{option_map_or}
-use Rattle.operations.specs.Kept.{live_at}
+use Rattle.operations.specs.OperationTable.{live_at}
 use Rattle.operations.specs.Statuses.{is_pending}
 use Rattle.operations.specs.declared.status.Status.TheVariants.{Cancelling}
 use Rattle.row_machine.specs.machine.State.{State}
-use Rattle.row_machine.specs.machine.Work.{cancelled, moved}
+use Rattle.row_machine.specs.machine.Operations.{cancelled, moved}
 
 -- whether the live operation of a number waits for its first call
 abbrev pub waits : State → ℕ → Bool

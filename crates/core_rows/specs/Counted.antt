@@ -2,11 +2,11 @@
 use Rattle.std.specs.Prelude.{ℕ, List, Option, if◌then◌else◌}
 use Rattle.std.specs.Option.{option_map_or}
 use Rattle.operations.specs.declared.operation.Operation.{Operation}
-use Rattle.operations.specs.Kept.{live_at}
+use Rattle.operations.specs.OperationTable.{live_at}
 use Rattle.operations.specs.Statuses.{is_pending}
 use Rattle.row_machine.specs.machine.State.{State}
 use Rattle.row_machine.specs.machine.Task.{Task}
-use Rattle.row_machine.specs.machine.Work.{held_share}
+use Rattle.row_machine.specs.machine.Operations.{held_share}
 use Rattle.core_judging.specs.core_reports.specs.declared.jobs.Turned.{Turned}
 use Rattle.core_judging.specs.core_reports.specs.declared.jobs.Turned.TheVariants as turned
 use Rattle.core_judging.specs.core_totals.specs.declared.ends.Counted.{Counted}

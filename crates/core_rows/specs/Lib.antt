@@ -4,7 +4,7 @@ pub use Rattle.core_judging.specs.core_reports as core_reports
 pub mod Asked
 pub mod Cancels
 pub mod Counted
-pub mod Kept
+pub mod EstateView
 pub mod Opening
 pub mod Planned
 pub mod View

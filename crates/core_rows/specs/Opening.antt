@@ -16,7 +16,7 @@ use Rattle.row_machine.specs.opening.Opening.{Opening, opened, damaged, broken}
 use Rattle.row_machine.specs.opening.Opening.{first_rows, with_rows, rows_in}
 use Rattle.row_machine.specs.opening.Opening.{opening_by, opening_of}
 use Rattle.row_machine.specs.opening.Records.{records_of}
-use Rattle.core_rows.specs.Kept.{Kept}
+use Rattle.core_rows.specs.EstateView.{EstateView}
 use Rattle.core_rows.specs.declared.opening.OpenFault.{OpenFault}
 use Rattle.core_rows.specs.declared.opening.OpenFault.TheVariants as fault
 
@@ -24,9 +24,9 @@ use Rattle.core_rows.specs.declared.opening.OpenFault.TheVariants as fault
 abbrev pub first_state : State
 first_state = with_rows first_rows
 
--- these are the entries of a store, where it tells them
-abbrev pub AreTold : List Entry → Store → Type 0
-AreTold entries store = IfSome store.told (λ told. told ≡ entries)
+-- these are the contents of a store, where it shows them
+abbrev pub AreContents : List Entry → Store → Type 0
+AreContents entries store = IfSome store.contents (λ contents. contents ≡ entries)
 
 -- whether entries that open so give no state: one of them is damaged, or their rows break a rule
 abbrev pub is_refused : Opening → Bool
@@ -60,7 +60,7 @@ GivesDraft (Ok draft) opening = (opening ≡ opened draft.state) × (draft.log �
 GivesDraft (Err why) opening = Tells why opening
 
 -- the rows of the server are what entries open to, and nothing waits to be told; or a fault tells why there are none
-abbrev pub Gives : Result Kept OpenFault → Opening → Type 0
+abbrev pub Gives : Result EstateView OpenFault → Opening → Type 0
 Gives (Ok kept) opening = (opening ≡ opened kept.state) × (kept.untold ≡ [])
 Gives (Err why) opening = Tells why opening
 
@@ -69,7 +69,7 @@ Gives (Err why) opening = Tells why opening
 -- A load found these entries, which are in order; or it failed or was out of memory.
 abbrev pub Loads : Result (List Entry) OpenFault → Store → Store → Type 0
 Loads (Ok entries) store store' =
-    AreTold entries store × IsOrderedEntries entries × Each HasBytes entries × (store' ≡ after_calls 1 store)
+    AreContents entries store × IsOrderedEntries entries × Each HasBytes entries × (store' ≡ after_calls 1 store)
 Loads (Err fault.KeeperFailed) store store' = FailsAtCall 1 store store'
 Loads (Err fault.NoMemory) store store' = store' ≡ after_calls 1 store
 Loads (Err other) store store' = ⊥
@@ -82,7 +82,7 @@ Commits (Err fault.NoMemory) changes store store' = store' ≡ after_calls 1 sto
 Commits (Err other) changes store store' = ⊥
 
 -- the first rows were committed in one call, which may have failed; or memory was refused before it or in it
-abbrev pub Begins : Result Kept OpenFault → Store → Store → Type 0
+abbrev pub Begins : Result EstateView OpenFault → Store → Store → Type 0
 Begins (Ok kept) store store' =
     (kept.state ≡ first_state) × (kept.untold ≡ []) × (store' ≡ after_commit (entry_changes (put_all first_rows)) store)
 Begins (Err fault.KeeperFailed) store store' = FailsAtCall 1 store store'
@@ -90,7 +90,7 @@ Begins (Err fault.NoMemory) store store' = IsAfterUpTo 1 store store'
 Begins (Err other) store store' = ⊥
 
 -- after the load: without entries the first rows are committed, and else the entries are opened without a call
-abbrev pub GoesOn : Result Kept OpenFault → List Entry → Store → Store → Type 0
+abbrev pub GoesOn : Result EstateView OpenFault → List Entry → Store → Store → Type 0
 GoesOn result [] store store' = Begins result store store'
 GoesOn result (entry ∷ entries) store store' = Gives result (opening_of (entry ∷ entries)) × (store' ≡ store)
 
@@ -104,7 +104,7 @@ opening_calls (entry ∷ entries) = 1
 -- a store after its entries were opened to this state: they are the records of the state
 abbrev pub opened_store : List Entry → State → Store → Store
 opened_store entries state store = record {
-  told = option_map (λ _. records_of state) store.told;
+  contents = option_map (λ _. records_of state) store.contents;
   calls = called (opening_calls entries) store.calls;
   failures = store.failures;
 }
@@ -112,14 +112,14 @@ opened_store entries state store = record {
 -- the entries of the store open to this state, and are its records now
 pub record OpensTo (state : State) (store store' : Store) : Type 0 where
   pub entries : List Entry
-  pub told : AreTold entries store
+  pub contents : AreContents entries store
   pub opens : opening_of entries ≡ opened state
   pub after : store' ≡ opened_store entries state store
 
 -- the entries of the store open to no state, and it is as it was but for the load
 pub record OpensToNone (opening : Opening) (store store' : Store) : Type 0 where
   pub entries : List Entry
-  pub told : AreTold entries store
+  pub contents : AreContents entries store
   pub opens : opening_of entries ≡ opening
   pub after : store' ≡ after_calls 1 store
 
@@ -128,10 +128,11 @@ pub record OpensToNone (opening : Opening) (store store' : Store) : Type 0 where
 abbrev pub Refuses : OpenFault → Store → Store → Type 0
 Refuses (fault.Damaged kind key) store store' = OpensToNone (damaged kind key) store store'
 Refuses (fault.Broken rule kind key) store store' = OpensToNone (broken rule kind key) store store'
-Refuses fault.KeeperFailed store store' = FailsAtCall 1 store store' ⊎ (AreTold [] store × FailsAtCall 2 store store')
+Refuses fault.KeeperFailed store store' =
+    FailsAtCall 1 store store' ⊎ (AreContents [] store × FailsAtCall 2 store store')
 Refuses fault.NoMemory store store' = IsAfterUpTo 2 store store'
 
 -- The rows are what the entries of the store open to, and nothing waits to be told; or the opening was refused.
-abbrev pub Opens : Result Kept OpenFault → Store → Store → Type 0
+abbrev pub Opens : Result EstateView OpenFault → Store → Store → Type 0
 Opens (Ok kept) store store' = OpensTo kept.state store store' × (kept.untold ≡ [])
 Opens (Err why) store store' = Refuses why store store'

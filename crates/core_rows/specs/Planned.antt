@@ -41,4 +41,4 @@ pub record IsToStart (state : State) (command : Command) (moment : ℕ) (task : 
 pub record Follows (state : State) (command : Command) (moment : ℕ) (later : State) (untold : List Untold)
     (reply : Reply) (store store' : Store) : Type 0 where
   pub asked : IsAsked state command moment later untold reply store store'
-  pub kept : KeepsRecords store.told state store'.told later
+  pub kept : KeepsRecords store.contents state store'.contents later

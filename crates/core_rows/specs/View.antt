@@ -4,11 +4,11 @@ use Rattle.row_machine.specs.facts.Whole.{IsWhole}
 use Rattle.core_rows.specs.declared.estate.Estate.TheInside.{Inside}
 use Rattle.core_judging.specs.core_reports.specs.Waiting.{IsSilent, untold_limit}
 use Rattle.core_judging.specs.core_totals.specs.Totals.{AreTotals}
-use Rattle.core_rows.specs.Kept.{Kept}
+use Rattle.core_rows.specs.EstateView.{EstateView}
 use Rattle.core_judging.specs.core_reports.specs.Waiting.{told_by}
 
 -- the state, and the notices that wait
-abbrev pub kept : Inside → Kept
+abbrev pub kept : Inside → EstateView
 kept estate =
     record { state = estate.draft.state; untold = map (told_by estate.draft.state.operations) estate.untold.items }
 

@@ -1,18 +1,20 @@
 //! Cancels of live operations. None of it takes memory.
 ghost use Rattle.std.specs.Prelude.{◌≡◌, ◌<◌, ◌≤◌, ◌++◌, [], IsSome, find, vec_len, vec_capacity};
-ghost use Rattle.operations.specs.Kept.{live_at};
-ghost use Rattle.row_machine.specs.machine.Work.{is_held_by};
+ghost use Rattle.operations.specs.OperationTable.{live_at};
+ghost use Rattle.row_machine.specs.machine.Operations.{is_held_by};
 ghost use Rattle.core_rows.specs.Cancels.{waits, stopped};
 ghost use Rattle.core_rows.specs.Counted.{counted_out};
 ghost use Rattle.core_judging.specs.core_reports.specs.Turns.{shown_at};
 
 use core_drafts::Draft;
-use core_judging::{Totals, Waiting, cancel, give_back, held_share, is_pending, live_at, tell};
+use core_judging::{
+    Totals, Waiting, cancel, give_back, held_share, is_pending, live_at, queue_event,
+};
 use operations::Status;
-use row_readings::View;
+use row_readings::StateRef;
 
 /// Whether the live operation of a number waits for its first call.
-fn waits(view: &View<'_>, number: u64) -> bool
+fn waits(view: &StateRef<'_>, number: u64) -> bool
     ensures { result ≡ waits view.now number }
 {
     match live_at(view, number) {
@@ -51,11 +53,11 @@ pub(crate) fn stop(draft: &mut Draft, untold: &mut Vec<Waiting>, number: u64, mo
     ensures greatest { draft.new.backing.greatest ≡ draft.old.backing.greatest }
 {
     end_or_turn(draft, number, moment);
-    tell(untold, &draft.view(), number, moment);
+    queue_event(untold, &draft.view(), number, moment);
 }
 
 /// The cancel of a live operation gives back what it claims, where it waits: that counts no more for its project.
-pub(crate) fn count_out(totals: &mut Totals, view: &View<'_>, number: u64)
+pub(crate) fn count_out(totals: &mut Totals, view: &StateRef<'_>, number: u64)
     ensures { totals.new ≡ counted_out view.now number totals.old }
 {
     match live_at(view, number) {

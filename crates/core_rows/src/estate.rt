@@ -14,14 +14,14 @@ use crate::counted::follow_report;
 use core_drafts::Draft;
 use core_judging::{
     Totals, Turned, Waiting, begin, commit, commit_start, count, first_pending, judge, judge_claim,
-    prepare, prepare_start, refused_reply, roll_back, take_report, tell, told_by,
+    prepare, prepare_start, queue_event, refused_reply, roll_back, take_report, told_by,
 };
 use host_model::{HostCall, Report};
 use plain_lists::push_reserved;
 use record_keeper::Keeper;
 use records::{Command, Reply, Untold};
-use row_machine::{RowChange, Work};
-use row_readings::View;
+use row_machine::{RowChange, Task};
+use row_readings::StateRef;
 use rules_tables::cancel_broken;
 use size_values::{NoMemory, Seq};
 use std::alloc::Global;
@@ -37,9 +37,9 @@ pub struct Estate {
 }
 
 impl Model for Estate {
-    ghost use Rattle.core_rows.specs.Kept.{Kept};
+    ghost use Rattle.core_rows.specs.EstateView.{EstateView};
 
-    ghost Value = { Kept };
+    ghost Value = { EstateView };
 
     ghost use Rattle.core_rows.specs.View.{kept, IsEstate};
 
@@ -67,7 +67,7 @@ impl Estate {
     }
 
     /// The rows, to be read.
-    pub fn view(&self) -> View<'_>
+    pub fn view(&self) -> StateRef<'_>
         ensures state { result ≡ self.now.state }
         ensures whole { IsWhole self.now.state }
     {
@@ -114,7 +114,7 @@ impl Estate {
             drop(notice);
             return roll_back(&mut self.draft, why);
         }
-        self.draft.settle();
+        self.draft.keep_changes();
         self.totals.forget();
         push_reserved(&mut self.untold, Waiting::Whole(notice));
         Reply::Empty
@@ -131,7 +131,7 @@ impl Estate {
             return None;
         };
         let call = begin(&mut self.draft, number, moment);
-        tell(&mut self.untold, &self.draft.view(), number, moment);
+        queue_event(&mut self.untold, &self.draft.view(), number, moment);
         Some((number, call))
     }
 
@@ -185,7 +185,7 @@ impl Estate {
     /// Begins the background operation of a command that breaks no rule on names and on what stands in the way. The
     /// operation is entered and judged by the state with its claim; where a rule is broken or memory is refused, it is
     /// taken back. Else it holds its share from then on, and its notice is left to be told. The store is not asked.
-    pub fn start(&mut self, alloc: Global, command: &Command, moment: u64, work: Work) -> Reply
+    pub fn start(&mut self, alloc: Global, command: &Command, moment: u64, work: Task) -> Reply
         requires quiet { self.old.untold ≡ [] }
         requires planned { IsToStart self.old.state command.now moment work }
         ensures { (store : Store)
@@ -235,7 +235,7 @@ impl Estate {
     }
 
     /// Hands out the first notice that was not yet taken.
-    pub fn take_told(&mut self, alloc: Global) -> Result<Option<Untold>, NoMemory>
+    pub fn take_event(&mut self, alloc: Global) -> Result<Option<Untold>, NoMemory>
         ensures some { IfOk result (λ taken. IfSome taken (λ notice. self.old.untold ≡ notice ∷ self.new.untold)) }
         ensures none { IfOk result (λ taken. IfNone taken ((self.old.untold ≡ []) × (self.new.untold ≡ []))) }
         ensures error { OnErr result (self.new.untold ≡ self.old.untold) }

@@ -85,7 +85,7 @@ fn first_estate(alloc: Global, changes: Seq<RowChange>) -> Result<Estate, NoMemo
     let mut draft = Draft::new(alloc)?;
     draft.reserve_for(alloc, &changes)?;
     draft.apply(changes);
-    draft.settle();
+    draft.keep_changes();
     Estate::of(alloc, draft)
 }
 

@@ -29,7 +29,7 @@ use Rattle.row_machine.specs.machine.LimitRules.{limit_exceeded, over_refusal, p
 use Rattle.row_machine.specs.machine.State.{State}
 use Rattle.row_machine.specs.machine.Task.{Task}
 use Rattle.row_machine.specs.machine.Usage.{Load, loads, used, usage_of, networks_of, amount_for, instance_load, volume_load, claim_load}
-use Rattle.row_machine.specs.machine.Work.{claiming, project_of_task}
+use Rattle.row_machine.specs.machine.Operations.{claiming, project_of_task}
 use Rattle.row_machine.specs.facts.Whole.{IsWhole, IsWithin, AreWithin}
 use Rattle.row_machine.specs.machine.Rows.{is_project, project_named, project_names}
 use Rattle.machine_laws.proofs.DefaultsProjects.{distinct_projects}

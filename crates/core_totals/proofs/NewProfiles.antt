@@ -24,7 +24,7 @@ use Rattle.records.specs.declared.rows.Volume.{Volume}
 use Rattle.records.specs.declared.rows.Instance.{Instance}
 use Rattle.row_machine.specs.machine.Claims.{of_live, claimed_instance, claimed_volume, judged_instances, judged_volumes, project_of_row}
 use Rattle.row_machine.specs.machine.Holders.{names_profile}
-use Rattle.row_machine.specs.machine.LimitRules.{instance_uncounted, volume_uncounts, claim_uncounted, project_uncounted, counts_broken, limit_exceeded, part_exceeds, networks_exceed, limits_broken}
+use Rattle.row_machine.specs.machine.LimitRules.{instance_without_amount, volume_lacks_amount, claim_without_amount, project_without_amount, counts_broken, limit_exceeded, part_exceeds, networks_exceed, limits_broken}
 use Rattle.row_machine.specs.machine.PolicyRules.{forbids_profile, forbids_instance, project_forbids, policy_broken}
 use Rattle.row_machine.specs.machine.Rows.{is_profile, profile_named, profile_names, project_named, texts_before, with_profile}
 use Rattle.row_machine.specs.machine.State.{State}
@@ -32,7 +32,7 @@ use Rattle.row_machine.specs.machine.Task.{Task}
 use Rattle.row_machine.specs.machine.Usage.{Load, loads, used, networks_of, amount_for, instance_load, volume_load, claim_load}
 use Rattle.row_machine.specs.facts.Whole.{IsWhole, IsClean, IsWithin}
 use Rattle.machine_laws.proofs.DefaultsProjects.{distinct_projects}
-use Rattle.machine_laws.proofs.Expansions.{IsAlike, amounts-alike, uncounted-alike, forbids-alike}
+use Rattle.machine_laws.proofs.Expansions.{IsAlike, amounts-alike, without_amount-alike, forbids-alike}
 use Rattle.machine_laws.proofs.ExpansionsApart.{fails-by}
 use Rattle.machine_laws.proofs.ExpansionsAtOnce.{put-alike}
 use Rattle.machine_laws.proofs.ExpansionsNamed.{named-there, row-judged}
@@ -40,7 +40,7 @@ use Rattle.machine_laws.proofs.LimitsForbidden.{rule_numbers}
 use Rattle.machine_laws.proofs.LimitsWithin.{within-limits}
 use Rattle.machine_laws.proofs.SharesAlike.{IsShareAlike, share-alike}
 use Rattle.machine_laws.proofs.SharesAtOnce.{claim-judged, replaced-row}
-use Rattle.rules_limits.proofs.Countables.{uncounted-split}
+use Rattle.rules_limits.proofs.Countables.{without_amount-split}
 use Rattle.rules_limits.specs.Within.{own_instance as own_counted}
 use Rattle.rules_policy.specs.Alone.{first_forbids, profile_forbidden}
 use Rattle.rules_policy.specs.Within.{own_profile, own_instance, own_claim}
@@ -122,29 +122,29 @@ module _ (s : State) (r : Profile) (h : IsWhole s) (free : profile_named s.profi
   -- ---- counts
 
   instance-counts : (p : Project) (w : IsWithin s p) (i : Instance) → Mem i (judged_instances s) → i.project ≡ p.name
-      → instance_uncounted (with_new s r) p i ≡ None
-  instance-counts p w i m own = uncounted-alike p (alike i m) ∙ w.instances.at i m own
+      → instance_without_amount (with_new s r) p i ≡ None
+  instance-counts p w i m own = without_amount-alike p (alike i m) ∙ w.instances.at i m own
 
   instances-count : (p : Project) (w : IsWithin s p) → first_of (own_counted (with_new s r) p) s.instances ≡ None
   instances-count p w = none-first_of (own_counted (with_new s r) p) s.instances (record {
-    at = λ i m. own-none (instance_uncounted (with_new s r) p) (λ (x : Instance). x.project) p.name i (instance-counts p w i (row-judged s i m));
+    at = λ i m. own-none (instance_without_amount (with_new s r) p) (λ (x : Instance). x.project) p.name i (instance-counts p w i (row-judged s i m));
   })
 
-  claim-counts : (p : Project) (w : IsWithin s p) (o : Operation Task) → Mem o s.operations.live → claim_uncounted (with_new s r) p o.work ≡ None
+  claim-counts : (p : Project) (w : IsWithin s p) (o : Operation Task) → Mem o s.operations.live → claim_without_amount (with_new s r) p o.work ≡ None
   unfolding judged_volumes
   claim-counts p w o m = last-of
-      (listed-none (instance_uncounted (with_new s r) p) (λ (i : Instance). i.project) p.name (claimed_instance o.work)
+      (listed-none (instance_without_amount (with_new s r) p) (λ (i : Instance). i.project) p.name (claimed_instance o.work)
       (λ i is. instance-counts p w i (claim-judged s o i m is)))
-      (listed-none (volume_uncounts p) (λ (v : Volume). v.project) p.name (claimed_volume o.work)
+      (listed-none (volume_lacks_amount p) (λ (v : Volume). v.project) p.name (claimed_volume o.work)
       (λ v is own. w.volumes.at v (claimed claimed_volume s s.volumes o v m is) own))
       refl
 
   counts-one : counts_broken (with_new s r) ≡ None
   unfolding counts_broken
-  counts-one = none-first_of (project_uncounted (with_new s r)) s.projects (Each-map (λ p w.
-      sym (uncounted-split (with_new s r) p)
+  counts-one = none-first_of (project_without_amount (with_new s r)) s.projects (Each-map (λ p w.
+      sym (without_amount-split (with_new s r) p)
       ∙ last-of (instances-count p w) (volumes-free s p w)
-      (none-first_of (λ (o : Operation Task). claim_uncounted (with_new s r) p o.work) s.operations.live (record { at = claim-counts p w })))
+      (none-first_of (λ (o : Operation Task). claim_without_amount (with_new s r) p o.work) s.operations.live (record { at = claim-counts p w })))
       h.limits.limits)
 
   -- ---- limits

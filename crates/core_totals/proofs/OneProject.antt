@@ -15,7 +15,7 @@ use Rattle.size_values.specs.Amounts.{part}
 use Rattle.size_values.specs.declared.amounts.Part.{Part}
 use Rattle.size_values.specs.declared.kinds.ObjectKind.TheVariants as kind
 use Rattle.operations.specs.declared.operation.Operation.{Operation}
-use Rattle.operations.specs.Kept.{Kept}
+use Rattle.operations.specs.OperationTable.{OperationTable}
 use Rattle.project_limits.specs.Admission.{limit_on, key_of, parts}
 use Rattle.project_limits.specs.Limits.{limits_of}
 use Rattle.project_limits.specs.declared.admission.LimitKey.TheVariants as limit_key
@@ -32,13 +32,13 @@ use Rattle.row_machine.specs.facts.Whole.{IsWhole, IsWithin, IsClean}
 use Rattle.row_machine.specs.machine.Changes.{applied}
 use Rattle.row_machine.specs.machine.Claims.{of_live, amounts_of_instance, claimed_instance, claimed_volume, judged_instances, judged_volumes, project_of_row, replaced_instance, share_of}
 use Rattle.row_machine.specs.machine.Homes.{home_of, is_on}
-use Rattle.row_machine.specs.machine.LimitRules.{instance_uncounted, volume_uncounts, claim_uncounted, project_uncounted, counts_broken, limit_exceeded, part_exceeds, networks_exceed, limits_broken}
+use Rattle.row_machine.specs.machine.LimitRules.{instance_without_amount, volume_lacks_amount, claim_without_amount, project_without_amount, counts_broken, limit_exceeded, part_exceeds, networks_exceed, limits_broken}
 use Rattle.row_machine.specs.machine.PolicyRules.{forbids_profile, forbids_instance, project_forbids, policy_broken}
 use Rattle.row_machine.specs.machine.Rows.{default_name, is_project, is_profile, is_instance, project_named, project_names, profile_named, instance_named}
 use Rattle.row_machine.specs.machine.State.{State}
 use Rattle.row_machine.specs.machine.Task.{Task}
 use Rattle.row_machine.specs.machine.Usage.{Load, amount_for, used, usage_of, networks_of}
-use Rattle.machine_laws.proofs.Expansions.{home_in, IsAlike, amounts-alike, uncounted-alike, forbids-alike}
+use Rattle.machine_laws.proofs.Expansions.{home_in, IsAlike, amounts-alike, without_amount-alike, forbids-alike}
 use Rattle.machine_laws.proofs.ExpansionsApart.{fails-by, home-either, profile-so}
 use Rattle.machine_laws.proofs.ExpansionsNamed.{claim-is, judged-home, row-judged}
 use Rattle.machine_laws.proofs.Found.{instance-found}
@@ -195,7 +195,7 @@ module _ (s t : State) (shared : Bool) (such : List ℕ → Bool) (h : IsWhole s
   judged-there i m other = elim (Mem-append i t.instances (of_live claimed_instance t) m) [
     | inl row ↦ row-judged s i (instance-there i row other)
     | inr claim ↦ Mem-right i s.instances (of_live claimed_instance s)
-        (subst (λ (ops : Kept Task). Mem i (of_live claimed_instance (record s { operations = ops }))) b.operations claim)
+        (subst (λ (ops : OperationTable Task). Mem i (of_live claimed_instance (record s { operations = ops }))) b.operations claim)
   ]
 
   -- ---- policy
@@ -242,12 +242,12 @@ module _ (s t : State) (shared : Bool) (such : List ℕ → Bool) (h : IsWhole s
 
   -- ---- counts
 
-  counts-other : (q : Project) → Mem q t.projects → such q.name ≡ false → project_uncounted t q ≡ None
+  counts-other : (q : Project) → Mem q t.projects → such q.name ≡ false → project_without_amount t q ≡ None
   unfolding judged_volumes
   counts-other q m other = last-of
-      (none-first_of (instance_uncounted t q) (filter own_instance t.instances) (record { at = instances }))
-      (none-first_of (volume_uncounts q) (filter own_volume t.volumes) (record { at = volumes }))
-      (none-first_of (λ (o : Operation Task). claim_uncounted t q o.work) t.operations.live (record { at = claims })) where
+      (none-first_of (instance_without_amount t q) (filter own_instance t.instances) (record { at = instances }))
+      (none-first_of (volume_lacks_amount q) (filter own_volume t.volumes) (record { at = volumes }))
+      (none-first_of (λ (o : Operation Task). claim_without_amount t q o.work) t.operations.live (record { at = claims })) where
         within : IsWithin s q
         within = h.limits.limits.at q (project-there q m other)
 
@@ -257,35 +257,35 @@ module _ (s t : State) (shared : Bool) (such : List ℕ → Bool) (h : IsWhole s
         own_volume : Volume → Bool
         own_volume v = bytes_eq v.project q.name
 
-        counted : (i : Instance) → Mem i (judged_instances s) → i.project ≡ q.name → instance_uncounted t q i ≡ None
+        counted : (i : Instance) → Mem i (judged_instances s) → i.project ≡ q.name → instance_without_amount t q i ≡ None
         counted i n own =
-            uncounted-alike q (alike i n (ap such own ∙ other))
+            without_amount-alike q (alike i n (ap such own ∙ other))
             ∙ within.instances.at i n own
 
-        instances : (i : Instance) → Mem i (filter own_instance t.instances) → instance_uncounted t q i ≡ None
+        instances : (i : Instance) → Mem i (filter own_instance t.instances) → instance_without_amount t q i ≡ None
         instances i n =
             let own = Mem-passes own_instance i t.instances n in
             counted i (row-judged s i (instance-there i (Mem-filter own_instance i t.instances n) (own-other i.project q.name own other)))
             (same i.project q.name own)
 
-        volumes : (v : Volume) → Mem v (filter own_volume t.volumes) → volume_uncounts q v ≡ None
+        volumes : (v : Volume) → Mem v (filter own_volume t.volumes) → volume_lacks_amount q v ≡ None
         volumes v n =
             let own = Mem-passes own_volume v t.volumes n in
             let there : Mem v s.volumes = volume-there v (Mem-filter own_volume v t.volumes n) (own-other v.project q.name own other) in
             within.volumes.at v (Mem-left v s.volumes (of_live claimed_volume s) there) (same v.project q.name own)
 
-        claims : (o : Operation Task) → Mem o t.operations.live → claim_uncounted t q o.work ≡ None
+        claims : (o : Operation Task) → Mem o t.operations.live → claim_without_amount t q o.work ≡ None
         claims o n =
-            let live : Mem o s.operations.live = subst (λ (ops : Kept Task). Mem o ops.live) b.operations n in
+            let live : Mem o s.operations.live = subst (λ (ops : OperationTable Task). Mem o ops.live) b.operations n in
             none-of_two
-            (listed-none (instance_uncounted t q) (λ (i : Instance). i.project) q.name (claimed_instance o.work)
+            (listed-none (instance_without_amount t q) (λ (i : Instance). i.project) q.name (claimed_instance o.work)
             (λ i is own. counted i (claim-judged s o i live is) own))
-            (listed-none (volume_uncounts q) (λ (v : Volume). v.project) q.name (claimed_volume o.work)
+            (listed-none (volume_lacks_amount q) (λ (v : Volume). v.project) q.name (claimed_volume o.work)
             (λ v is own. within.volumes.at v (claimed claimed_volume s s.volumes o v live is) own))
 
-  pub counts-within : counts_broken t ≡ first_of (project_uncounted t) those
+  pub counts-within : counts_broken t ≡ first_of (project_without_amount t) those
   unfolding counts_broken
-  counts-within = first_of-passing (λ (q : Project). such q.name) (project_uncounted t) (project_uncounted t) t.projects
+  counts-within = first_of-passing (λ (q : Project). such q.name) (project_without_amount t) (project_without_amount t) t.projects
       (record { at = counts-other }) (λ q own. refl)
 
   -- ---- shares
@@ -293,7 +293,7 @@ module _ (s t : State) (shared : Bool) (such : List ℕ → Bool) (h : IsWhole s
   module _ (o : Operation Task) (m : Mem o s.operations.live) (other : such o.work.project ≡ false) where
     -- the row that it replaces is of its project
     replaced-alike : replaced_instance t o.work ≡ replaced_instance s o.work
-    replaced-alike = elim (replaces-or_not s o.work (h.operations.deeds.at o m) (h.links.operations.at o m)) [
+    replaced-alike = elim (replaces-or_not s o.work (h.operations.deeds.at o m) (h.references.operations.at o m)) [
       | inl r ↦ ap (found t) r.names ∙ instance-alike o.work.project o.work.target.name other ∙ sym (ap (found s) r.names)
       | inr none ↦ ap (found t) none ∙ sym (ap (found s) none)
     ] where
@@ -301,7 +301,7 @@ module _ (s t : State) (shared : Bool) (such : List ℕ → Bool) (h : IsWhole s
       found u names = option_and_then (λ (n : List ℕ × List ℕ). instance_named u.instances n.0 n.1) names
 
     replaced-own : (i : Instance) → replaced_instance s o.work ≡ Some i → i.project ≡ o.work.project
-    replaced-own i is = elim (replaces-or_not s o.work (h.operations.deeds.at o m) (h.links.operations.at o m)) [
+    replaced-own i is = elim (replaces-or_not s o.work (h.operations.deeds.at o m) (h.references.operations.at o m)) [
       | inl r ↦ (instance-found s.instances o.work.project o.work.target.name i (sym (ap found r.names) ∙ is)).0
       | inr none ↦ absurd (some-none (sym is ∙ ap found none))
     ] where
@@ -312,7 +312,7 @@ module _ (s t : State) (shared : Bool) (such : List ℕ → Bool) (h : IsWhole s
       some-none e = cc
 
     replaced-there : (i : Instance) → replaced_instance s o.work ≡ Some i → Mem i s.instances
-    replaced-there i is = elim (replaces-or_not s o.work (h.operations.deeds.at o m) (h.links.operations.at o m)) [
+    replaced-there i is = elim (replaces-or_not s o.work (h.operations.deeds.at o m) (h.references.operations.at o m)) [
       | inl r ↦ (find-some (is_instance o.work.project o.work.target.name) s.instances i (sym (ap found r.names) ∙ is)).0
       | inr none ↦ absurd (some-none (sym is ∙ ap found none))
     ] where
@@ -325,7 +325,7 @@ module _ (s t : State) (shared : Bool) (such : List ℕ → Bool) (h : IsWhole s
     same-share : IsShareAlike s t o.work
     same-share = record {
       claimed = λ i is. amounts-alike (alike i (claim-judged s o i m is)
-          (ap such ((h.links.operations.at o m).claim_project (row.Instance i) (claim-is o.work i is)) ∙ other));
+          (ap such ((h.references.operations.at o m).claim_project (row.Instance i) (claim-is o.work i is)) ∙ other));
       replaced = replaced-alike;
       old = λ i is. amounts-alike (alike i (row-judged s i (replaced-there i is)) (ap such (replaced-own i is) ∙ other));
     }
@@ -370,7 +370,7 @@ module _ (s t : State) (shared : Bool) (such : List ℕ → Bool) (h : IsWhole s
       own : (new : Row) → o.work.claim ≡ Some new → (c : Bool) → bytes_eq (project_of_row new) q ≡ c
           → cond c (part k (share_of t o.work)) 0 ≡ cond c (part k (share_of s o.work)) 0
       own new is true of = ap (part k) (share-alike o.work (same-share o m
-          (ap such (sym ((h.links.operations.at o m).claim_project new is) ∙ same (project_of_row new) q of) ∙ other)))
+          (ap such (sym ((h.references.operations.at o m).claim_project new is) ∙ same (project_of_row new) q of) ∙ other)))
       own new is false of = refl
 
       at : (claim : Option Row) → o.work.claim ≡ claim
@@ -381,7 +381,7 @@ module _ (s t : State) (shared : Bool) (such : List ℕ → Bool) (h : IsWhole s
     claims-add : sum_by (λ (o : Operation Task). claim_part t q k o.work) t.operations.live
         ≡ sum_by (λ (o : Operation Task). claim_part s q k o.work) s.operations.live
     claims-add =
-        ap (λ (ops : Kept Task). sum_by (λ (o : Operation Task). claim_part t q k o.work) ops.live) b.operations
+        ap (λ (ops : OperationTable Task). sum_by (λ (o : Operation Task). claim_part t q k o.work) ops.live) b.operations
         ∙ sum_by-same (λ (o : Operation Task). claim_part t q k o.work) (λ (o : Operation Task). claim_part s q k o.work) s.operations.live
         (record { at = claim-adds })
 
@@ -467,7 +467,7 @@ all-within shared (c ∷ cs) p is = at (list_all (is_within shared (project_touc
 pub one-alone : (s : State) (cs : List RowChange) (p : List ℕ) → IsWhole s → project_of_all (are_profiles_shared s) cs ≡ Some p → IsProjectJudgedAlone s (applied s cs) p
 one-alone s cs p h is = record {
   policy = policy-within s t (are_profiles_shared s) own h (λ none. none) b;
-  counts = counts-within s t (are_profiles_shared s) own h (λ none. none) b ∙ named-first (project_uncounted t) p t.projects distinct;
+  counts = counts-within s t (are_profiles_shared s) own h (λ none. none) b ∙ named-first (project_without_amount t) p t.projects distinct;
   limits = limits-within s t (are_profiles_shared s) own h (λ none. none) b ∙ exceeding-own s t p distinct;
 } where
   t : State

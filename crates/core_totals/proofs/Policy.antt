@@ -13,7 +13,7 @@ use Rattle.row_machine.specs.machine.Claims.{of_live, claimed_instance, judged_i
 use Rattle.row_machine.specs.machine.PolicyRules.{forbids_profile, forbids_instance, project_forbids, policy_broken}
 use Rattle.row_machine.specs.machine.State.{State}
 use Rattle.row_machine.specs.machine.Task.{Task}
-use Rattle.row_machine.specs.machine.Work.{claiming}
+use Rattle.row_machine.specs.machine.Operations.{claiming}
 use Rattle.row_machine.specs.facts.Whole.{IsClean, AreWithin}
 use Rattle.machine_laws.proofs.LimitsForbidden.{rule_numbers}
 use Rattle.rules_policy.specs.Alone.{claim_forbidden}

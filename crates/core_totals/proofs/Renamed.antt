@@ -18,7 +18,7 @@ use Rattle.row_machine.specs.declared.changes.RowChange.{RowChange}
 use Rattle.row_machine.specs.declared.changes.RowChange.TheVariants as change
 use Rattle.row_machine.specs.facts.Whole.{IsWhole}
 use Rattle.row_machine.specs.machine.Changes.{applied, changed, has_key, with_row, without_row}
-use Rattle.row_machine.specs.machine.LimitRules.{project_uncounted}
+use Rattle.row_machine.specs.machine.LimitRules.{project_without_amount}
 use Rattle.row_machine.specs.machine.Rows.{same_names, texts_before, project_names}
 use Rattle.row_machine.specs.machine.State.{State}
 use Rattle.machine_laws.proofs.DefaultsProjects.{distinct_projects}
@@ -120,8 +120,8 @@ renamed-alone s old new cs h all = record {
   policy = policy-within s t true either h always b ∙ ap (policy_broken_in t) those-are;
   counts =
       counts-within s t true either h always b
-      ∙ ap (first_of (project_uncounted t)) those-are
-      ∙ named-first (project_uncounted t) new t.projects (distinct-applied s changes h);
+      ∙ ap (first_of (project_without_amount t)) those-are
+      ∙ named-first (project_without_amount t) new t.projects (distinct-applied s changes h);
   limits =
       limits-within s t true either h always b
       ∙ ap (exceeding s t) those-are

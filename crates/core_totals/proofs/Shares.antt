@@ -9,14 +9,14 @@ use Rattle.size_values.specs.declared.amounts.Amounts.{Amounts}
 use Rattle.size_values.specs.declared.amounts.Part.{Part}
 use Rattle.size_values.proofs.AmountParts.{same-parts, part-plus, part-excess}
 use Rattle.operations.specs.declared.operation.Operation.{Operation}
-use Rattle.operations.specs.Kept.{has_number, live_at}
+use Rattle.operations.specs.OperationTable.{has_number, live_at}
 use Rattle.records.specs.declared.rows.Row.{Row}
 use Rattle.reservations.specs.declared.books.Hold.{Hold}
 use Rattle.row_machine.specs.machine.Claims.{share_of, project_of_row, amounts_of_instance}
 use Rattle.row_machine.specs.machine.State.{State}
 use Rattle.row_machine.specs.machine.Task.{Task}
 use Rattle.row_machine.specs.machine.Usage.{loads, used, usage_of, amount_for}
-use Rattle.row_machine.specs.machine.Work.{is_held_by, held_share, entered, project_of_task}
+use Rattle.row_machine.specs.machine.Operations.{is_held_by, held_share, entered, project_of_task}
 use Rattle.row_machine.specs.facts.Whole.{IsWhole, held_by}
 use Rattle.machine_laws.proofs.EndsLive.{find-map}
 use Rattle.machine_laws.proofs.ExpansionsApart.{fails-by}

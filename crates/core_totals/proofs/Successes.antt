@@ -25,7 +25,7 @@ use Rattle.size_values.specs.declared.kinds.ObjectKind.TheVariants as kind
 use Rattle.operations.specs.declared.operation.Operation.{Operation}
 use Rattle.operations.specs.declared.operation.OpFault.TheVariants as fault
 use Rattle.operations.specs.declared.status.Status.TheVariants as status
-use Rattle.operations.specs.Kept.{has_number, live_at}
+use Rattle.operations.specs.OperationTable.{has_number, live_at}
 use Rattle.records.specs.declared.notices.Untold.{Untold}
 use Rattle.records.specs.declared.rows.Instance.{Instance}
 use Rattle.records.specs.declared.rows.Snapshot.{Snapshot}
@@ -40,10 +40,10 @@ use Rattle.row_machine.specs.machine.Asked.{snapshots_of}
 use Rattle.row_machine.specs.machine.Changes.{has_key, applied, removal}
 use Rattle.row_machine.specs.machine.Claims.{claimed_instance, replaced_instance, amounts_of, amounts_of_instance, share_of, share_over, project_of_row}
 use Rattle.row_machine.specs.machine.Deeds.{claim_kind, replaces_target, has_target, target_kind, keeps_name}
-use Rattle.row_machine.specs.shown.Links.{target_of}
+use Rattle.row_machine.specs.shown.Urls.{target_of}
 use Rattle.row_machine.specs.shown.Notices.{telling}
 use Rattle.row_machine.specs.machine.Usage.{used, usage_of, amount_for}
-use Rattle.row_machine.specs.machine.Work.{converted, ended, succeeded, success_changes, with_power_after, power_after}
+use Rattle.row_machine.specs.machine.Operations.{converted, ended, succeeded, success_changes, with_power_after, power_after}
 use Rattle.row_machine.specs.facts.Whole.{IsWhole, IsByDeed, IsPlaced, instance_there, new_instance}
 use Rattle.machine_laws.specs.Lowered.{IsLastDone, LowersUsage}
 use Rattle.machine_laws.proofs.BooksSteps.{applied-same, power-keeps}
@@ -275,7 +275,7 @@ module _ (s : State) (o : Operation Task) (moment : ℕ) (h : IsWhole s) (live :
   deeds = h.operations.deeds.at o o_live
 
   placed : IsPlaced s o.work
-  placed = h.links.operations.at o o_live
+  placed = h.references.operations.at o o_live
 
   abbrev start : State
   start = with_power_after o.work (power_after s o.work) s
@@ -373,8 +373,8 @@ module _ (s : State) (o : Operation Task) (moment : ℕ) (h : IsWhole s) (live :
 
   -- ---- what leaves the rows
 
-  uncounted : leaves_rows o.work.deed ≡ true → (project : List ℕ) (k : Part) → claim_part s project k o ≡ 0
-  uncounted leaves project k = elim (leaving-claims o.work.deed leaves) [
+  without_amount : leaves_rows o.work.deed ≡ true → (project : List ℕ) (k : Part) → claim_part s project k o ≡ 0
+  without_amount leaves project k = elim (leaving-claims o.work.deed leaves) [
     | inl e ↦ unclaimed (claimed-none e) project k
     | inr e ↦ at o.work.claim refl (deeds.kind ∙ e)
   ] where
@@ -392,7 +392,7 @@ module _ (s : State) (o : Operation Task) (moment : ℕ) (h : IsWhole s) (live :
   left-next : leaves_rows o.work.deed ≡ true → SameUsage s next
   left-next leaves = usage-parts s next (λ project k.
       let all = success-with (tables s) (leaving-rows s start o.work o.work.deed leaves deeds.kind (power-tables o.work (power_after s o.work) s)) project k in
-      omega (arith, all, uncounted leaves project k))
+      omega (arith, all, without_amount leaves project k))
 
   -- ---- a removal
 

@@ -8,7 +8,7 @@ use Rattle.operations.specs.declared.operation.OpFault.{OpFault}
 use Rattle.operations.specs.declared.operation.OpFault.TheVariants as fault
 use Rattle.operations.specs.declared.status.Status.{Status}
 use Rattle.operations.specs.declared.status.Status.TheVariants as status
-use Rattle.operations.specs.Kept.{live_at, kept_at}
+use Rattle.operations.specs.OperationTable.{live_at, kept_at}
 use Rattle.records.specs.declared.notices.Untold.{Untold}
 use Rattle.row_machine.specs.declared.changes.RowChange.{RowChange}
 use Rattle.row_machine.specs.declared.events.Answer.{Answer}
@@ -18,7 +18,7 @@ use Rattle.row_machine.specs.machine.Accept.{After}
 use Rattle.row_machine.specs.machine.State.{State}
 use Rattle.row_machine.specs.machine.Step.{Outcome, well, keeper_failed, no_memory, step, done, reported, while_running, while_cancelling, call_done, call_failed, committed, failure, success, stray}
 use Rattle.row_machine.specs.machine.Task.{Task}
-use Rattle.row_machine.specs.machine.Work.{with_task, one_more_done, undone, failed, cancelled, succeeded, success_changes}
+use Rattle.row_machine.specs.machine.Operations.{with_task, one_more_done, undone, failed, cancelled, succeeded, success_changes}
 use Rattle.row_machine.specs.shown.Notices.{telling, operation_notice, success_notices}
 use Rattle.row_machine.specs.facts.Whole.{IsWhole}
 use Rattle.machine_laws.proofs.Base.{live-number}

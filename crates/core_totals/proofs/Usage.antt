@@ -14,14 +14,14 @@ use Rattle.operations.specs.declared.operation.OpFault.{OpFault}
 use Rattle.operations.specs.declared.operation.OpFault.TheVariants as fault
 use Rattle.operations.specs.declared.status.Status.{Status}
 use Rattle.operations.specs.declared.status.Status.TheVariants as status
-use Rattle.operations.specs.Kept.{Kept, has_number, live_at}
+use Rattle.operations.specs.OperationTable.{OperationTable, has_number, live_at}
 use Rattle.records.specs.declared.notices.Untold.{Untold}
 use Rattle.row_machine.specs.machine.Task.{Task}
 use Rattle.row_machine.specs.machine.State.{State}
 use Rattle.row_machine.specs.machine.Claims.{amounts_of_instance, share_of}
 use Rattle.row_machine.specs.shown.Notices.{telling}
 use Rattle.row_machine.specs.machine.Usage.{Load, loads, used, usage_of, amount_for, claim_load, instance_load, volume_load}
-use Rattle.row_machine.specs.machine.Work.{returned, ended, failed, cancelled}
+use Rattle.row_machine.specs.machine.Operations.{returned, ended, failed, cancelled}
 use Rattle.machine_laws.proofs.BooksSteps.{failure-keeps, telling-keeps}
 use Rattle.machine_laws.proofs.LimitsEnds.{claims-same}
 use Rattle.machine_laws.proofs.LimitsRows.{Tables, tables}
@@ -71,7 +71,7 @@ core-load : (s : State) (task : Task) → claim_load s (core_of task) ≡ claim_
 unfolding share_of
 core-load s task = refl
 
-pub usage-cores : (s : State) (k : Kept Task) → cores k ≡ cores s.operations → SameUsage s (record s { operations = k })
+pub usage-cores : (s : State) (k : OperationTable Task) → cores k ≡ cores s.operations → SameUsage s (record s { operations = k })
 unfolding loads share_of amounts_of_instance
 usage-cores s k same = usage-parts s (record s { operations = k }) (λ project part. ap (λ xs. sum_by (amount_for project part) (loads_of xs))
     (of_cores (claim_load s) (λ task. core-load s task) s (record s { operations = k }) same)) where

@@ -1,6 +1,6 @@
 -- A new operation is judged by what it claims alone.
 use Rattle.std.specs.Prelude.{◌≡◌, ℕ}
-use Rattle.rules_limits.specs.OneProject.{claim_uncounts, share_broken}
+use Rattle.rules_limits.specs.OneProject.{claim_lacks_amount, share_broken}
 use Rattle.rules_policy.specs.Alone.{claim_forbidden}
 use Rattle.row_machine.specs.facts.Whole.{IsWhole}
 use Rattle.row_machine.specs.machine.Claims.{share_of}
@@ -9,13 +9,13 @@ use Rattle.row_machine.specs.machine.PolicyRules.{policy_broken}
 use Rattle.row_machine.specs.machine.State.{State}
 use Rattle.row_machine.specs.machine.Task.{Task}
 use Rattle.row_machine.specs.machine.Usage.{usage_of}
-use Rattle.row_machine.specs.machine.Work.{claiming, project_of_task}
+use Rattle.row_machine.specs.machine.Operations.{claiming, project_of_task}
 
 -- Where all facts hold, a rule on what is counted (L0), on policy (F1 to F7) or on limits (L1 to L8) that the state
 -- with one more operation breaks is one that the claimed row breaks alone: of the limits, what its project uses
 -- before it and its share decide.
 pub record IsJudgedAlone (state : State) (task : Task) (moment : ℕ) : Type 0 where
-  pub counts : counts_broken (claiming state task moment) ≡ claim_uncounts state (project_of_task task) task
+  pub counts : counts_broken (claiming state task moment) ≡ claim_lacks_amount state (project_of_task task) task
   pub policy : policy_broken (claiming state task moment) ≡ claim_forbidden state task
   pub limits : limits_broken state (claiming state task moment)
       ≡ share_broken state.projects (project_of_task task) (usage_of state (project_of_task task)) (share_of state task)

@@ -9,12 +9,12 @@ use Rattle.size_values.specs.declared.kinds.Deed.TheVariants as deed
 use Rattle.operations.specs.declared.operation.Operation.{Operation}
 use Rattle.operations.specs.declared.status.Status.{Status}
 use Rattle.operations.specs.declared.status.Status.TheVariants as status
-use Rattle.operations.specs.Kept.{live_at}
+use Rattle.operations.specs.OperationTable.{live_at}
 use Rattle.row_machine.specs.machine.Claims.{claimed_instance, amounts_of_instance, project_of_row}
 use Rattle.row_machine.specs.machine.Rows.{instance_named}
 use Rattle.row_machine.specs.machine.State.{State}
 use Rattle.row_machine.specs.machine.Task.{Task}
-use Rattle.row_machine.specs.machine.Work.{held_share}
+use Rattle.row_machine.specs.machine.Operations.{held_share}
 use Rattle.core_totals.specs.declared.ends.Counted.{Counted}
 use Rattle.core_totals.specs.declared.totals.Total.{Total}
 use Rattle.core_totals.specs.Totals.{lowered}

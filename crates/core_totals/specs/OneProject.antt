@@ -15,7 +15,7 @@ use Rattle.row_machine.specs.facts.Whole.{IsWhole}
 use Rattle.row_machine.specs.machine.Changes.{applied}
 use Rattle.row_machine.specs.machine.Claims.{project_of_row}
 use Rattle.row_machine.specs.machine.Homes.{is_on}
-use Rattle.row_machine.specs.machine.LimitRules.{counts_broken, limits_broken, project_uncounted}
+use Rattle.row_machine.specs.machine.LimitRules.{counts_broken, limits_broken, project_without_amount}
 use Rattle.row_machine.specs.machine.PolicyRules.{policy_broken}
 use Rattle.row_machine.specs.machine.Rows.{default_name}
 use Rattle.row_machine.specs.machine.State.{State}
@@ -112,7 +112,7 @@ in_use state project = record { amounts = usage_of state project; networks = net
 -- gets another name, none is left under the old one.
 pub record IsProjectJudgedAlone (state later : State) (project : List ℕ) : Type 0 where
   pub policy : policy_broken later ≡ policy_broken_in later (projects_of later project)
-  pub counts : counts_broken later ≡ of_project (project_uncounted later) later.projects project
+  pub counts : counts_broken later ≡ of_project (project_without_amount later) later.projects project
   pub limits : limits_broken state later
       ≡ of_project (uses_over (in_use state project) (in_use later project)) later.projects project
 

@@ -2,10 +2,10 @@
 ghost use Rattle.std.specs.Prelude.{◌≡◌, true, IfOk, IfSome};
 ghost use Rattle.std.specs.List.{find};
 ghost use Rattle.std.specs.Option.{option_copied, option_map_or};
-ghost use Rattle.operations.specs.Kept.{kept_at};
+ghost use Rattle.operations.specs.OperationTable.{kept_at};
 ghost use Rattle.size_values.specs.Amounts.{nothing};
 ghost use Rattle.row_machine.specs.machine.Claims.{claimed_instance, amounts_of_instance};
-ghost use Rattle.row_machine.specs.machine.Work.{held_share, is_held_by};
+ghost use Rattle.row_machine.specs.machine.Operations.{held_share, is_held_by};
 ghost use Rattle.core_totals.specs.Ends.{given_back, leaves_usage, has_fall, fall_of};
 ghost use Rattle.core_totals.specs.Ends.{IsCounted, after_success, after_end_of, after_end};
 
@@ -13,8 +13,8 @@ use crate::totals::Totals;
 use core_reports::live_at;
 use operations::{Operation, Status};
 use reservations::Hold;
-use row_machine::Work;
-use row_readings::{View, amounts_of_instance, claimed_instance, kept_at, project_of_row};
+use row_machine::Task;
+use row_readings::{StateRef, amounts_of_instance, claimed_instance, kept_at, project_of_row};
 use size_values::{Action, Amounts, Deed, NoMemory};
 use std::alloc::Global;
 
@@ -36,7 +36,7 @@ fn hold_of(held: &[Hold], number: u64) -> Option<&Hold>
 }
 
 /// The share that an operation holds.
-pub fn held_share(view: &View<'_>, number: u64) -> Amounts
+pub fn held_share(view: &StateRef<'_>, number: u64) -> Amounts
     ensures { result ≡ held_share view.now number }
 {
     match hold_of(view.held, number) {
@@ -66,7 +66,7 @@ fn has_fall(deed: Deed) -> bool
 }
 
 /// What the instance counts for that an operation would put, if it would put one.
-fn claimed_amounts(alloc: Global, view: &View<'_>, work: &Work) -> Result<Amounts, NoMemory>
+fn claimed_amounts(alloc: Global, view: &StateRef<'_>, work: &Task) -> Result<Amounts, NoMemory>
     ensures { IfOk result
         (λ a. a ≡ option_map_or (amounts_of_instance view.now) (claimed_instance work.now) nothing) }
 {
@@ -78,7 +78,7 @@ fn claimed_amounts(alloc: Global, view: &View<'_>, work: &Work) -> Result<Amount
 
 /// By how much it lowers what a project uses where its instance, which an operation is about, becomes what the
 /// operation would put, or goes.
-fn fall_of(alloc: Global, view: &View<'_>, work: &Work) -> Result<Amounts, NoMemory>
+fn fall_of(alloc: Global, view: &StateRef<'_>, work: &Task) -> Result<Amounts, NoMemory>
     ensures { IfOk result (λ a. a ≡ fall_of view.now work.now) }
 {
     let project = work.project.view();
@@ -94,7 +94,7 @@ fn fall_of(alloc: Global, view: &View<'_>, work: &Work) -> Result<Amounts, NoMem
 
 /// By how much the success of an operation lowers what its project uses. It is known only of one whose last call is
 /// handed out, whose deed changes or removes its target, and where memory was not refused.
-fn known_fall(alloc: Global, view: &View<'_>, work: &Work) -> Option<Amounts>
+fn known_fall(alloc: Global, view: &StateRef<'_>, work: &Task) -> Option<Amounts>
     ensures { IfSome result (λ fall. (has_fall work.now.deed ≡ true) × (fall ≡ fall_of view.now work.now)) }
 {
     if !has_fall(work.deed) {
@@ -110,7 +110,7 @@ fn known_fall(alloc: Global, view: &View<'_>, work: &Work) -> Option<Amounts>
 }
 
 /// What the operation of this number counts for. Memory that is refused is not missed.
-pub fn count(alloc: Global, view: &View<'_>, number: u64) -> Counted
+pub fn count(alloc: Global, view: &StateRef<'_>, number: u64) -> Counted
     ensures { IsCounted view.now number result }
 {
     let share = held_share(view, number);
@@ -126,7 +126,7 @@ pub fn count(alloc: Global, view: &View<'_>, number: u64) -> Counted
 // ---- after it
 
 /// An operation that held this share ends, and all rows stay: what it claimed counts no more.
-pub fn give_back(totals: &mut Totals, work: &Work, share: &Amounts)
+pub fn give_back(totals: &mut Totals, work: &Task, share: &Amounts)
     ensures { totals.new ≡ given_back work.now share.now totals.old }
 {
     match &work.claim {
@@ -151,7 +151,7 @@ fn leaves_usage(deed: Deed) -> bool
 }
 
 /// An operation has succeeded, which lowered what its project uses by this, where that is known.
-fn follow_success(totals: &mut Totals, work: &Work, fall: Option<Amounts>)
+fn follow_success(totals: &mut Totals, work: &Task, fall: Option<Amounts>)
     ensures { totals.new ≡ after_success work.now fall totals.old }
 {
     match fall {
@@ -165,7 +165,7 @@ fn follow_success(totals: &mut Totals, work: &Work, fall: Option<Amounts>)
 }
 
 /// An operation that counted for this has ended so.
-fn follow_end_of(totals: &mut Totals, operation: &Operation<Work>, counted: &Counted)
+fn follow_end_of(totals: &mut Totals, operation: &Operation<Task>, counted: &Counted)
     ensures { totals.new ≡ after_end_of operation.now counted.now totals.old }
 {
     match operation.status {
@@ -176,7 +176,7 @@ fn follow_end_of(totals: &mut Totals, operation: &Operation<Work>, counted: &Cou
 }
 
 /// The operation of this number, which counted for this, has ended as it is kept. It takes no memory.
-pub fn follow_end(totals: &mut Totals, view: &View<'_>, number: u64, counted: &Counted)
+pub fn follow_end(totals: &mut Totals, view: &StateRef<'_>, number: u64, counted: &Counted)
     ensures { totals.new ≡ after_end (kept_at view.now.operations number) counted.now totals.old }
 {
     match kept_at(view, number) {

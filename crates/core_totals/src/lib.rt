@@ -8,7 +8,7 @@ mod totals;
 
 pub use core_reports::{
     Shown, Turned, Waiting, begin, cancel, default_profile, entry_changes, first_pending,
-    is_pending, live_at, take_report, tell, told_by,
+    is_pending, live_at, queue_event, take_report, told_by,
 };
 pub use ends::{Counted, count, follow_end, give_back, held_share};
 pub use laws::{claims_are_judged_alone, new_profiles_are_judged_alone, projects_are_judged_alone};

@@ -9,7 +9,7 @@ ghost use Rattle.row_machine.specs.machine.Usage.{usage_of};
 ghost use Rattle.core_totals.specs.Totals.{AreTotals, is_of, known, grown, lowered};
 
 use project_limits::Limits;
-use row_readings::{View, usage_of};
+use row_readings::{StateRef, usage_of};
 use rules_limits::needs_usage;
 use size_values::{Amounts, NoMemory, Text};
 use std::alloc::Global;
@@ -39,7 +39,7 @@ impl Model for Totals {
 }
 
 /// The place of the total of a project.
-fn place_of(totals: &[Total], project: &str) -> Option<usize>
+fn index_of(totals: &[Total], project: &str) -> Option<usize>
     ensures place { result ≡ position (is_of project.now) totals.now }
     ensures within { IfSome result (λ place. place < length totals.now) }
 {
@@ -88,7 +88,7 @@ impl Totals {
     pub fn used_beside(
         &mut self,
         alloc: Global,
-        view: &View<'_>,
+        view: &StateRef<'_>,
         name: &str,
         limits: Option<Limits>,
         share: &Amounts,
@@ -117,7 +117,7 @@ impl Totals {
         requires { IfSome (known self.old project.now) (λ a. (k : Part) → part k a + part k share.now < 2 ^ 128) }
         ensures { self.new ≡ grown project.now share.now self.old }
     {
-        let Some(place) = place_of(&self.totals, project) else {
+        let Some(place) = index_of(&self.totals, project) else {
             return;
         };
         let total = &mut self.totals[place];
@@ -128,7 +128,7 @@ impl Totals {
     pub fn lower(&mut self, project: &str, share: &Amounts)
         ensures { self.new ≡ lowered project.now share.now self.old }
     {
-        let Some(place) = place_of(&self.totals, project) else {
+        let Some(place) = index_of(&self.totals, project) else {
             return;
         };
         let total = &mut self.totals[place];

@@ -9,8 +9,8 @@ use Rattle.row_machine.specs.machine.Step.{Outcome, step}
 use Rattle.row_machine.specs.facts.Whole.{IsWhole}
 use Rattle.row_machine.specs.shown.Notices.{telling}
 use Rattle.machine_laws.specs.Possible.{IsPossible}
-use Rattle.event_hub.specs.Recent.{Recent, all_pushed, nothing_told, recent_of, with_recent}
-use Rattle.core_turns.specs.Asides.{IsNoFetch, IsUntold, TellsAfter}
+use Rattle.event_hub.specs.Recent.{Recent, all_pushed, no_notices, recent_of, with_recent}
+use Rattle.core_turns.specs.Asides.{IsNoFetch, HasNoNotices, TellsAfter}
 use Rattle.core_turns.specs.ShortTasks.{AreShort}
 use Rattle.core_turns.proofs.Apart.{Apart, same-operations, step-apart}
 use Rattle.core_turns.proofs.Apart.Apart.{never, leaves}
@@ -18,17 +18,17 @@ use Rattle.core_turns.proofs.Shortness.{of-kept, stay-short}
 use Rattle.core_turns.proofs.Telling.{telling-with, told-once}
 
 -- a state in which nothing was told
-untold-is : (s : State) → IsUntold s → with_recent nothing_told s ≡ s
+untold-is : (s : State) → HasNoNotices s → with_recent no_notices s ≡ s
 untold-is s none = ap (λ r. with_recent r s) (sym none)
 
-module _ (s s' : State) (e : Event) (outcome : Outcome) (a : Answer) (untold : List Untold) (free : IsNoFetch e) (before : IsUntold s) (now : IsUntold s')
+module _ (s s' : State) (e : Event) (outcome : Outcome) (a : Answer) (untold : List Untold) (free : IsNoFetch e) (before : HasNoNotices s) (now : HasNoNotices s')
     (is : step s e outcome ≡ Some (and_then a (telling untold s'))) where
   -- what it is for that state, as the part says
-  first : step (with_recent nothing_told s) e outcome ≡ Some (and_then a (telling untold s'))
+  first : step (with_recent no_notices s) e outcome ≡ Some (and_then a (telling untold s'))
   first = ap (λ t. step t e outcome) (untold-is s before) ∙ is
 
   by : Apart (λ r. step (with_recent r s) e outcome) → (r : Recent) → step (with_recent r s) e outcome ≡ Some (and_then a (with_recent (all_pushed untold r) s'))
-  by (never none) r = impossible (sym (none nothing_told) ∙ first) where
+  by (never none) r = impossible (sym (none no_notices) ∙ first) where
     impossible : None ≡ Some (and_then a (telling untold s')) → step (with_recent r s) e outcome ≡ Some (and_then a (with_recent (all_pushed untold r) s'))
     impossible h = cc
   by (leaves g l every) r =
@@ -41,12 +41,12 @@ module _ (s s' : State) (e : Event) (outcome : Outcome) (a : Answer) (untold : L
         some-is : {x y : After} → Some x ≡ Some y → x ≡ y
         some-is same = cc
 
-        both : and_then l.answer (with_recent (all_pushed l.untold nothing_told) l.state) ≡ and_then a (with_recent (all_pushed untold nothing_told) s')
+        both : and_then l.answer (with_recent (all_pushed l.untold no_notices) l.state) ≡ and_then a (with_recent (all_pushed untold no_notices) s')
         both =
-            ap (and_then l.answer) (sym (telling-with l.untold nothing_told l.state))
-            ∙ some-is (sym (ap Some (l.is nothing_told)) ∙ sym (every nothing_told) ∙ first)
+            ap (and_then l.answer) (sym (telling-with l.untold no_notices l.state))
+            ∙ some-is (sym (ap Some (l.is no_notices)) ∙ sym (every no_notices) ∙ first)
             ∙ ap (λ t. and_then a (telling untold t)) (sym (untold-is s' now))
-            ∙ ap (and_then a) (telling-with untold nothing_told s')
+            ∙ ap (and_then a) (telling-with untold no_notices s')
 
         same_answer : l.answer ≡ a
         same_answer = ap (λ (x : After). x.answer) both
@@ -61,14 +61,14 @@ module _ (s s' : State) (e : Event) (outcome : Outcome) (a : Answer) (untold : L
   after = by (step-apart s e outcome free)
 
 -- whatever the state after it, what is true of the operations of both is so, where a step of the first keeps it
-pub short-after : (s m : State) (r : Recent) (e : Event) (outcome : Outcome) (a : Answer) (untold : List Untold) → IsNoFetch e → IsUntold s
+pub short-after : (s m : State) (r : Recent) (e : Event) (outcome : Outcome) (a : Answer) (untold : List Untold) → IsNoFetch e → HasNoNotices s
     → IsWhole (with_recent r s) → IsPossible e → AreShort s → step s e outcome ≡ Some (and_then a (telling untold m)) → AreShort m
 short-after s m r e outcome a untold free before whole possible short is = by (step-apart s e outcome free) where
-  first : step (with_recent nothing_told s) e outcome ≡ Some (and_then a (telling untold m))
+  first : step (with_recent no_notices s) e outcome ≡ Some (and_then a (telling untold m))
   first = ap (λ t. step t e outcome) (untold-is s before) ∙ is
 
   by : Apart (λ x. step (with_recent x s) e outcome) → AreShort m
-  by (never none) = impossible (sym (none nothing_told) ∙ first) where
+  by (never none) = impossible (sym (none no_notices) ∙ first) where
     impossible : None ≡ Some (and_then a (telling untold m)) → AreShort m
     impossible h = cc
   by (leaves g l every) = of-kept same stays where
@@ -80,14 +80,14 @@ short-after s m r e outcome a untold free before whole possible short is = by (s
     some-is : {x y : After} → Some x ≡ Some y → x ≡ y
     some-is alike = cc
 
-    both : telling l.untold (with_recent nothing_told l.state) ≡ telling untold m
-    both = ap (λ (x : After). x.state) (some-is (sym (ap Some (l.is nothing_told)) ∙ sym (every nothing_told) ∙ first))
+    both : telling l.untold (with_recent no_notices l.state) ≡ telling untold m
+    both = ap (λ (x : After). x.state) (some-is (sym (ap Some (l.is no_notices)) ∙ sym (every no_notices) ∙ first))
 
     same : m.operations ≡ (telling l.untold (with_recent r l.state)).operations
     same =
         sym (same-operations untold m)
         ∙ ap (λ (t : State). t.operations) (sym both)
-        ∙ same-operations l.untold (with_recent nothing_told l.state)
+        ∙ same-operations l.untold (with_recent no_notices l.state)
         ∙ sym (same-operations l.untold (with_recent r l.state))
 
 pub tells-after : TellsAfter

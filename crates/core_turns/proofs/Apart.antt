@@ -17,11 +17,11 @@ use Rattle.operations.specs.declared.operation.OpFault.TheVariants as op_fault
 use Rattle.operations.specs.declared.operation.Operation.{Operation}
 use Rattle.operations.specs.declared.status.Status.{Status}
 use Rattle.operations.specs.declared.status.Status.TheVariants as status
-use Rattle.operations.specs.Kept.{Kept, cancel_answer, kept_at, live_at}
+use Rattle.operations.specs.OperationTable.{OperationTable, cancel_answer, kept_at, live_at}
 use Rattle.records.specs.declared.commands.Command.{Command}
 use Rattle.records.specs.declared.commands.What.{What}
 use Rattle.records.specs.declared.commands.What.TheVariants as what
-use Rattle.records.specs.declared.notices.Told.TheVariants as told_of
+use Rattle.records.specs.declared.notices.EventBody.TheVariants as event_body
 use Rattle.records.specs.declared.notices.Untold.{Untold}
 use Rattle.records.specs.declared.refusals.Refusal.{Refusal}
 use Rattle.records.specs.declared.replies.Reply.TheVariants as reply
@@ -40,7 +40,7 @@ use Rattle.row_machine.specs.machine.State.{State}
 use Rattle.row_machine.specs.machine.Step.{Outcome, well, keeper_failed, no_memory, step, after_command, unavailable, taken, handed_out, first_pending, done, reported, success, failure, while_running, while_cancelling, call_done, call_failed, committed, stray, always}
 use Rattle.row_machine.specs.machine.Task.{Task}
 use Rattle.row_machine.specs.machine.Usage.{loads, usage_of, networks_of}
-use Rattle.row_machine.specs.machine.Work.{after_failure, cancelled, converted, ended, entered, failed, handing_out, moved, one_more_done, power_after, returned, succeeded, success_changes, undone, with_power, with_power_after, with_task}
+use Rattle.row_machine.specs.machine.Operations.{after_failure, cancelled, converted, ended, entered, failed, handing_out, moved, one_more_done, power_after, returned, succeeded, success_changes, undone, with_power, with_power_after, with_task}
 use Rattle.row_machine.specs.shown.Notices.{change_notices, changed_life, deed_lives, deleted_life, life_notice, made_life, moved_life, object_told, operation_notice, push_notice, success_notices, telling, view_of}
 use Rattle.row_machine.specs.shown.Views.{read, usage_view, used_by}
 use Rattle.machine_laws.proofs.BooksSteps.{telling-keeps}
@@ -89,7 +89,7 @@ tells a f t number moment same = record {
   answer = a;
   state = t;
   untold = operation_notice t number moment;
-  few = omega (arith, one-few {X = Untold} (option_map (λ (o : Operation Task). record { moment = moment; project = o.work.project; told = told_of.Op (view_of o) }) (kept_at t.operations number)));
+  few = omega (arith, one-few {X = Untold} (option_map (λ (o : Operation Task). record { moment = moment; project = o.work.project; body = event_body.Op (view_of o) }) (kept_at t.operations number)));
   is = λ r. ap (λ x. and_then a (with_operation_notice x number moment)) (same r);
 }
 
@@ -231,7 +231,7 @@ succeeds s o moment = record {
   few = few;
   is = λ r.
       ap (λ x. over_all (telling lives x)) (succeeded-aside s o moment r)
-      ∙ ap (λ (k : Kept Task). and_then (answer.Ended o.number) (telling (shown k) (telling lives (with_recent r t)))) (same-operations lives (with_recent r t))
+      ∙ ap (λ (k : OperationTable Task). and_then (answer.Ended o.number) (telling (shown k) (telling lives (with_recent r t)))) (same-operations lives (with_recent r t))
       ∙ ap (and_then (answer.Ended o.number)) (sym (telling-append lives (operation_notice t o.number moment) (with_recent r t)));
 } where
   t : State
@@ -243,8 +243,8 @@ succeeds s o moment = record {
   over_all : State → After
   over_all x = and_then (answer.Ended o.number) (with_operation_notice x o.number moment)
 
-  shown : Kept Task → List Untold
-  shown k = option_to_list (option_map (λ (x : Operation Task). record { moment = moment; project = x.work.project; told = told_of.Op (view_of x) }) (kept_at k o.number))
+  shown : OperationTable Task → List Untold
+  shown k = option_to_list (option_map (λ (x : Operation Task). record { moment = moment; project = x.work.project; body = event_body.Op (view_of x) }) (kept_at k o.number))
 
   few : length (success_notices o.work moment ++ operation_notice (succeeded s o moment) o.number moment) ≤ 8
   few = omega (
@@ -252,7 +252,7 @@ succeeds s o moment = record {
     length-append (success_notices o.work moment) (operation_notice (succeeded s o moment) o.number moment),
     map-few (life_notice moment o.work.project (object_told o.work)) (deed_lives o.work.deed),
     lives-few o.work.deed,
-    one-few {X = Untold} (option_map (λ (x : Operation Task). record { moment = moment; project = x.work.project; told = told_of.Op (view_of x) }) (kept_at (succeeded s o moment).operations o.number)),
+    one-few {X = Untold} (option_map (λ (x : Operation Task). record { moment = moment; project = x.work.project; body = event_body.Op (view_of x) }) (kept_at (succeeded s o moment).operations o.number)),
   )
 
 failure-aside : (task : Task) (count : ℕ) (s : State) (r : Recent) → after_failure task count (with_recent r s) ≡ with_recent r (after_failure task count s)

@@ -13,7 +13,7 @@ use Rattle.row_machine.specs.declared.changes.RowChange.TheVariants as change
 use Rattle.row_machine.specs.machine.Changes.{applied, changed, rows_put}
 use Rattle.row_machine.specs.machine.Claims.{judged_instances, judged_volumes, amounts_of_instance, share_of}
 use Rattle.row_machine.specs.machine.Holders.{busy_with, holder_of, first_user_of}
-use Rattle.row_machine.specs.machine.LimitRules.{instance_uncounted, counts_broken, part_exceeds, networks_exceed, limits_broken}
+use Rattle.row_machine.specs.machine.LimitRules.{instance_without_amount, counts_broken, part_exceeds, networks_exceed, limits_broken}
 use Rattle.row_machine.specs.machine.NameRules.{project_missing, what_is_missing, name_broken}
 use Rattle.row_machine.specs.machine.Plans.{Plan, nothing, changes, starts, plan_of}
 use Rattle.row_machine.specs.machine.PolicyRules.{forbids_instance, policy_broken, snapshot_blocked}
@@ -23,7 +23,7 @@ use Rattle.row_machine.specs.machine.StandingRules.{instance_busy, wrong_state, 
 use Rattle.row_machine.specs.machine.State.{State}
 use Rattle.row_machine.specs.machine.TableRules.{cancel_broken, entry_broken, tables_broken}
 use Rattle.row_machine.specs.machine.Usage.{loads, usage_of, networks_of}
-use Rattle.row_machine.specs.machine.Work.{claiming}
+use Rattle.row_machine.specs.machine.Operations.{claiming}
 use Rattle.row_machine.specs.shown.Views.{used_by, usage_view, read}
 use Rattle.event_hub.specs.Recent.{Recent, with_recent}
 
@@ -73,7 +73,7 @@ unfolding snapshot_blocked
 blocked-aside s c r = refl
 
 counts-aside : (s : State) (r : Recent) → counts_broken (with_recent r s) ≡ counts_broken s
-unfolding counts_broken instance_uncounted judged_instances judged_volumes
+unfolding counts_broken instance_without_amount judged_instances judged_volumes
 counts-aside s r = refl
 
 limits-aside : (s t : State) (r : Recent) → limits_broken (with_recent r s) (with_recent r t) ≡ limits_broken s t

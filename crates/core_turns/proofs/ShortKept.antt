@@ -3,7 +3,7 @@ use Rattle.std.proofs.Common.{◌≡◌, ℕ, Some, ◌++◌}
 use Rattle.plain_lists.proofs.Elements.{Each-append}
 use Rattle.plain_lists.proofs.Searches.{find-some}
 use Rattle.operations.specs.declared.operation.Operation.{Operation}
-use Rattle.operations.specs.Kept.{has_number, kept_at}
+use Rattle.operations.specs.OperationTable.{has_number, kept_at}
 use Rattle.row_machine.specs.machine.State.{State}
 use Rattle.row_machine.specs.machine.Task.{Task}
 use Rattle.core_turns.specs.ShortTasks.{AreShort, IsShortTask}

@@ -20,9 +20,9 @@ use Rattle.operations.specs.declared.status.Status.{Status}
 use Rattle.operations.specs.declared.status.Status.TheVariants as status
 use Rattle.operations.specs.declared.status.Status.TheVariants.{Running, Cancelling}
 use Rattle.operations.specs.Statuses.{is_pending}
-use Rattle.operations.specs.Kept.{Kept, has_number, live_at}
+use Rattle.operations.specs.OperationTable.{OperationTable, has_number, live_at}
 use Rattle.operations.specs.Limits.{most_ended}
-use Rattle.operations.specs.Kept as kept
+use Rattle.operations.specs.OperationTable as kept
 use Rattle.records.specs.declared.commands.Target.{Target}
 use Rattle.records.specs.declared.notices.Untold.{Untold}
 use Rattle.records.specs.declared.rows.Instance.{Instance}
@@ -33,7 +33,7 @@ use Rattle.row_machine.specs.machine.Plans.{instance_target}
 use Rattle.row_machine.specs.machine.Rows.{is_snapshot}
 use Rattle.row_machine.specs.machine.State.{State}
 use Rattle.row_machine.specs.machine.Task.{Task}
-use Rattle.row_machine.specs.machine.Work.{after_failure, cancelled, entered, failed, handing_out, moved, one_more_done, power_after, succeeded, success_changes, undone, with_power, with_power_after, with_task}
+use Rattle.row_machine.specs.machine.Operations.{after_failure, cancelled, entered, failed, handing_out, moved, one_more_done, power_after, succeeded, success_changes, undone, with_power, with_power_after, with_task}
 use Rattle.row_machine.specs.facts.Whole.{IsWhole, AreNamed}
 use Rattle.row_machine.specs.shown.Notices.{telling}
 use Rattle.machine_laws.proofs.BeginsCases.{begins}
@@ -135,7 +135,7 @@ begins-short s task h (unsnaps i r idle found) =
 
 -- ---- operations that are kept
 
-record AreShortIn (k : Kept Task) : Type 0 where
+record AreShortIn (k : OperationTable Task) : Type 0 where
   live : Each (λ o. IsShortTask o.work) k.live
   ended : Each (λ o. IsShortTask o.work) k.ended
 
@@ -144,8 +144,8 @@ in-kept s h = record { live = h.live; ended = h.ended }
 
 pub of-kept : {s t : State} → t.operations ≡ s.operations → AreShort s → AreShort t
 of-kept {s} {t} same h = record {
-  live = subst (λ (k : Kept Task). Each (λ o. IsShortTask o.work) k.live) (sym same) h.live;
-  ended = subst (λ (k : Kept Task). Each (λ o. IsShortTask o.work) k.ended) (sym same) h.ended;
+  live = subst (λ (k : OperationTable Task). Each (λ o. IsShortTask o.work) k.live) (sym same) h.live;
+  ended = subst (λ (k : OperationTable Task). Each (λ o. IsShortTask o.work) k.ended) (sym same) h.ended;
 }
 
 told-short : (ns : List Untold) (s : State) → AreShort s → AreShort (telling ns s)
@@ -168,7 +168,7 @@ its-own : (s : State) (o : Operation Task) → live_at s.operations o.number ≡
 its-own s o live h = h.live.at o (find-some (has_number o.number) s.operations.live o live).0
 
 -- an end
-ended-short : (k : Kept Task) (number : ℕ) (now : Status) (why : OpFault) (moment : ℕ) → AreShortIn k → AreShortIn (kept.ends number now why moment k)
+ended-short : (k : OperationTable Task) (number : ℕ) (now : Status) (why : OpFault) (moment : ℕ) → AreShortIn k → AreShortIn (kept.ends number now why moment k)
 ended-short k number now why moment h = record {
   live = Each-dropped (has_number number) h.live;
   ended = by (live_at k number) refl;

@@ -8,7 +8,7 @@ use Rattle.records.specs.declared.notices.Notice.{Notice}
 use Rattle.records.specs.declared.notices.Untold.{Untold}
 use Rattle.row_machine.specs.machine.State.{State}
 use Rattle.row_machine.specs.shown.Notices.{kept_notices, push_notice, telling}
-use Rattle.event_hub.specs.Recent.{Recent, all_pushed, numbered, nothing_told, pushed, with_recent}
+use Rattle.event_hub.specs.Recent.{Recent, all_pushed, numbered, no_notices, pushed, with_recent}
 
 -- ---- the machine's
 
@@ -66,7 +66,7 @@ listed k (n ∷ ns) = numbered k n ∷ listed (k + 1) ns
 
 -- without its number
 untold_of : Notice → Untold
-untold_of n = record { moment = n.moment; project = n.project; told = n.told }
+untold_of n = record { moment = n.moment; project = n.project; body = n.body }
 
 told-again : (k : ℕ) (ns : List Untold) → map untold_of (listed k ns) ≡ ns
 unfolding listed untold_of
@@ -94,11 +94,11 @@ notices-all (n ∷ ns) r less few =
     ∙ append_assoc r.notices (numbered r.next n ∷ []) (listed (r.next + 1) ns)
 
 -- what was told from nothing on tells itself, if it is little
-pub told-once : (us vs : List Untold) → length vs ≤ 8 → all_pushed us nothing_told ≡ all_pushed vs nothing_told → us ≡ vs
+pub told-once : (us vs : List Untold) → length vs ≤ 8 → all_pushed us no_notices ≡ all_pushed vs no_notices → us ≡ vs
 told-once us vs few same =
-    let next_vs = next-all vs nothing_told (omega (arith, few)) in
-    let many : length us ≡ length vs = count us nothing_told (length vs) (ap (λ (x : Recent). x.next) same ∙ next_vs) (omega (arith, few)) in
-    let left = notices-all us nothing_told (omega (arith, few, many)) (omega (arith, few, many)) in
-    let right = notices-all vs nothing_told (omega (arith, few)) (omega (arith, few)) in
+    let next_vs = next-all vs no_notices (omega (arith, few)) in
+    let many : length us ≡ length vs = count us no_notices (length vs) (ap (λ (x : Recent). x.next) same ∙ next_vs) (omega (arith, few)) in
+    let left = notices-all us no_notices (omega (arith, few, many)) (omega (arith, few, many)) in
+    let right = notices-all vs no_notices (omega (arith, few)) (omega (arith, few)) in
     let both : listed 1 us ≡ listed 1 vs = sym left ∙ ap (λ (x : Recent). x.notices) same ∙ right in
     sym (told-again 1 us) ∙ ap (map untold_of) both ∙ told-again 1 vs

@@ -20,9 +20,9 @@ use Rattle.row_machine.specs.opening.Records.{records_of}
 use Rattle.row_machine.specs.shown.Notices.{since, telling}
 use Rattle.machine_laws.specs.Possible.{IsPossible}
 use Rattle.machine_laws.proofs.StepKept.{step-keeps}
-use Rattle.event_hub.specs.Recent.{Recent, all_pushed, as_state, nothing_told, with_recent}
+use Rattle.event_hub.specs.Recent.{Recent, all_pushed, as_state, no_notices, with_recent}
 use Rattle.event_hub.proofs.Machines.{since-recent}
-use Rattle.core_turns.specs.Asides.{IsNoFetch, IsUntold}
+use Rattle.core_turns.specs.Asides.{IsNoFetch, HasNoNotices}
 use Rattle.core_turns.specs.ShortTasks.{AreShort}
 use Rattle.core_turns.proofs.After.{short-after, tells-after}
 use Rattle.core_turns.proofs.Aside.{broken-aside, plan-aside}
@@ -38,11 +38,11 @@ use Rattle.core_instances.specs.core_reports.specs.Waiting.{IsSilent}
 use Rattle.core_turns.specs.Turns.{Comes, IsTurn, changes_by}
 
 -- none was told so far
-untold-of : (s : State) → IsSilent s → IsUntold s
+untold-of : (s : State) → IsSilent s → HasNoNotices s
 untold-of s silent = λ i. record { notices = silent.notices i; next = silent.next i }
 
 -- a state in which nothing was told
-pub as-untold : (s : State) → IsSilent s → with_recent nothing_told s ≡ s
+pub as-untold : (s : State) → IsSilent s → with_recent no_notices s ≡ s
 as-untold s silent = ap (λ r. with_recent r s) (sym (untold-of s silent))
 
 -- ---- notices apart
@@ -70,10 +70,10 @@ keeps-aside {told} {told'} s s' r r' kept = λ start is.
 -- ---- a turn
 
 -- it tells after what the hub was told before
-pub heard : {s m s' : State} {untold : List Untold} {store store' : Store} {e : Event} {a : Answer} (r : Recent)
+pub collected : {s m s' : State} {untold : List Untold} {store store' : Store} {e : Event} {a : Answer} (r : Recent)
     → IsNoFetch e → IsSilent s → IsSilent s' → Comes s store e a m untold store' → s' ≡ m
     → IsTurn (with_recent r s) store e a (with_recent (all_pushed untold r) s') store'
-heard {s} {m} {s'} {untold} {store} {store'} {e} {a} r free before now h same = record {
+collected {s} {m} {s'} {untold} {store} {store'} {e} {a} r free before now h same = record {
   outcome = h.outcome;
   turns = record {
     is =
@@ -82,14 +82,14 @@ heard {s} {m} {s'} {untold} {store} {store'} {e} {a} r free before now h same = 
     stored = subst (λ cs. Stores cs h.outcome store store') (sym (changes-aside s e r)) h.stored;
   };
   caused = h.caused;
-  kept = keeps-aside s s' r (all_pushed untold r) (subst (λ t. KeepsRecords store.told s store'.told t) (sym same) h.kept);
+  kept = keeps-aside s s' r (all_pushed untold r) (subst (λ t. KeepsRecords store.contents s store'.contents t) (sym same) h.kept);
 }
 
 -- and so where nothing waits to be told
-pub nothing-heard : {s : State} {untold : List Untold} {store : Store} {e : Event} {a : Answer} (r : Recent) → untold ≡ []
+pub nothing-collected : {s : State} {untold : List Untold} {store : Store} {e : Event} {a : Answer} (r : Recent) → untold ≡ []
     → IsNoFetch e → IsSilent s → Comes s store e a s untold store → IsTurn (with_recent r s) store e a (with_recent r s) store
-nothing-heard {s} {untold} {store} {e} {a} r none free silent h =
-    heard r free silent silent (subst (λ us. Comes s store e a s us store) none h) refl
+nothing-collected {s} {untold} {store} {e} {a} r none free silent h =
+    collected r free silent silent (subst (λ us. Comes s store e a s us store) none h) refl
 
 -- a listener is answered from the hub
 pub fetch-turn : (r : Recent) (s : State) (store : Store) (cursor : ℕ) (filter : Filter) (f : Fetched) → f ≡ since (as_state r) cursor filter
@@ -117,7 +117,7 @@ fetch-refused s store cursor filter = record {
 
 -- a store of which nothing is known
 pub no_store : Store
-no_store = record { told = None; calls = 0; failures = 0 }
+no_store = record { contents = None; calls = 0; failures = 0 }
 
 -- the texts of operations stay short
 pub stays-short : {s m : State} {untold : List Untold} {store store' : Store} {e : Event} {a : Answer} (r : Recent)
@@ -133,7 +133,7 @@ turn-whole {s} {s'} {store} {store'} {e} {a} h possible t = step-keeps s e t.out
 
 -- what entries open to is told to nobody yet, and has no operations
 pub opening-invariant : (estate : State) (r : Recent) (store store' : Store) → OpensTo estate store store' → IsWhole estate
-    → r ≡ nothing_told → IsSilent estate × AreShort estate × IsWhole (with_recent r estate) × (with_recent r estate ≡ estate)
+    → r ≡ no_notices → IsSilent estate × AreShort estate × IsWhole (with_recent r estate) × (with_recent r estate ≡ estate)
 opening-invariant estate r store store' opens whole none =
     let silent = opened-silent opens.entries estate opens.opens in
     let same : with_recent r estate ≡ estate = ap (λ x. with_recent x estate) none ∙ as-untold estate silent in (

@@ -5,7 +5,7 @@ use Rattle.host_model.specs.declared.call.HostCall.{HostCall}
 use Rattle.host_model.specs.declared.report.Report.{Report}
 use Rattle.operations.specs.declared.operation.Operation.{Operation}
 use Rattle.operations.specs.declared.status.Status.TheVariants.{Running}
-use Rattle.operations.specs.Kept.{live_at}
+use Rattle.operations.specs.OperationTable.{live_at}
 use Rattle.size_values.specs.declared.entry.Entry.{Entry}
 use Rattle.record_keeper.specs.Store.{Store}
 use Rattle.records.specs.declared.notices.Untold.{Untold}
@@ -15,7 +15,7 @@ use Rattle.row_machine.specs.machine.Accept.{After, and_then}
 use Rattle.row_machine.specs.machine.State.{State}
 use Rattle.row_machine.specs.machine.Step.{well, step, first_pending, handed_out, taken}
 use Rattle.row_machine.specs.machine.Task.{Task}
-use Rattle.row_machine.specs.machine.Work.{handing_out, moved, with_task}
+use Rattle.row_machine.specs.machine.Operations.{handing_out, moved, with_task}
 use Rattle.row_machine.specs.opening.Records.{records_of}
 use Rattle.row_machine.specs.shown.Notices.{operation_notice, telling}
 use Rattle.machine_laws.proofs.BooksSteps.{telling-keeps}

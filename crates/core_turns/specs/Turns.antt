@@ -43,7 +43,7 @@ pub record IsTurn (state : State) (store : Store) (event : Event) (answer : Answ
   pub outcome : Outcome
   pub turns : Turns state store event outcome answer later store'
   pub caused : IsCaused outcome store.failures store'.failures
-  pub kept : KeepsRecords store.told state store'.told later
+  pub kept : KeepsRecords store.contents state store'.contents later
 
 -- An event was answered as one step of the machine, and these notices are left untold: a turn before they go to the
 -- hub.
@@ -53,4 +53,4 @@ pub record Comes (state : State) (store : Store) (event : Event) (answer : Answe
   pub is : step state event outcome ≡ Some (and_then answer (telling untold later))
   pub stored : Stores (changes_by state event) outcome store store'
   pub caused : IsCaused outcome store.failures store'.failures
-  pub kept : KeepsRecords store.told state store'.told later
+  pub kept : KeepsRecords store.contents state store'.contents later

@@ -1,7 +1,7 @@
 //! The turn of a client: a command, or a look at an operation.
 ghost use Rattle.std.specs.Prelude.{◌≡◌, ◌&&◌, [], false, not, is_some};
 ghost use Rattle.std.specs.Option.{option_copied};
-ghost use Rattle.operations.specs.Kept.{live_at};
+ghost use Rattle.operations.specs.OperationTable.{live_at};
 ghost use Rattle.record_keeper.specs.Store.{Store};
 ghost use Rattle.row_machine.specs.declared.events.Event.TheVariants as event_of;
 ghost use Rattle.core_instances.specs.Waits.{is_held, is_zero};
@@ -14,19 +14,19 @@ use core_instances::{Estate, do_instance, do_object, is_object_command};
 use operations::Operation;
 use record_keeper::Keeper;
 use records::{Command, Reply, What};
-use row_machine::{Answer, Work};
-use row_readings::View;
+use row_machine::{Answer, Task};
+use row_readings::StateRef;
 use std::alloc::Global;
 
 /// The live operation of a number.
-fn live_at<'x>(view: &View<'x>, number: u64) -> Option<&'x Operation<Work>>
+fn live_at<'x>(view: &StateRef<'x>, number: u64) -> Option<&'x Operation<Task>>
     ensures { option_copied result ≡ live_at view.now.operations number }
 {
     view.live.iter().find(|o| o.number == number)
 }
 
 /// Whether the operation of a number is live.
-pub(crate) fn is_live(view: &View<'_>, number: u64) -> bool
+pub(crate) fn is_live(view: &StateRef<'_>, number: u64) -> bool
     ensures { result ≡ is_some (live_at view.now.operations number) }
 {
     match live_at(view, number) {
@@ -42,14 +42,14 @@ fn is_zero(timeout: i64) -> bool
 }
 
 /// Whether a wait is to be held: its operation is live, and it waits for some time.
-fn is_held(view: &View<'_>, number: u64, timeout: i64) -> bool
+fn is_held(view: &StateRef<'_>, number: u64, timeout: i64) -> bool
     ensures { result ≡ is_some (live_at view.now.operations number) && not (is_zero timeout) }
 {
     is_live(view, number) && !is_zero(timeout)
 }
 
 /// The live operation for which a command is to wait.
-fn held_for(view: &View<'_>, asked: &What) -> Option<u64>
+fn held_for(view: &StateRef<'_>, asked: &What) -> Option<u64>
     ensures { result ≡ held_for view.now asked.now }
 {
     match asked {

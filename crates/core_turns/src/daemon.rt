@@ -1,5 +1,5 @@
 ghost use Rattle.std.specs.Prelude.{◌≡◌, ◌<◌, is_some};
-ghost use Rattle.operations.specs.Kept.{live_at};
+ghost use Rattle.operations.specs.OperationTable.{live_at};
 ghost use Rattle.record_keeper.specs.Store.{Store};
 ghost use Rattle.row_machine.specs.declared.events.Event.TheVariants as event_of;
 ghost use Rattle.row_machine.specs.facts.Whole.{IsWhole};
@@ -7,7 +7,7 @@ ghost use Rattle.size_values.specs.Moments.{moment_limit};
 ghost use Rattle.core_turns.specs.Opens.{Opens};
 ghost use Rattle.core_turns.specs.Turns.{IsServed, IsTurn, without_notices};
 
-use crate::hearing::hear;
+use crate::hearing::collect_events;
 use crate::{asking, working};
 use core_instances::{Estate, OpenFault, load_rows};
 use event_hub::Hub;
@@ -15,7 +15,7 @@ use host_model::Report;
 use record_keeper::Keeper;
 use records::{Command, Filter};
 use row_machine::{Answer, Event};
-use row_readings::View;
+use row_readings::StateRef;
 use std::alloc::Global;
 use std::marker::Model;
 
@@ -63,7 +63,7 @@ impl Daemon {
     }
 
     /// The rows and operations, to be read, without the notices.
-    pub fn view(&self) -> View<'_>
+    pub fn view(&self) -> StateRef<'_>
         ensures rows { result ≡ without_notices self.now }
         ensures whole { IsWhole self.now }
     {
@@ -91,7 +91,7 @@ impl Daemon {
             self.new (R.store keeper.new) }
     {
         let answer = asking::ask(alloc, &mut self.estate, keeper, command, moment);
-        hear(&mut self.estate, &mut self.hub);
+        collect_events(&mut self.estate, &mut self.hub);
         answer
     }
 
@@ -110,7 +110,7 @@ impl Daemon {
             store }
     {
         let answer = working::take(&mut self.estate, moment);
-        hear(&mut self.estate, &mut self.hub);
+        collect_events(&mut self.estate, &mut self.hub);
         answer
     }
 
@@ -128,7 +128,7 @@ impl Daemon {
             result self.new (R.store keeper.new) }
     {
         let answer = working::report(alloc, &mut self.estate, keeper, number, report, moment);
-        hear(&mut self.estate, &mut self.hub);
+        collect_events(&mut self.estate, &mut self.hub);
         answer
     }
 
@@ -149,7 +149,7 @@ impl Daemon {
         ensures { (store : Store) → IsTurn self.old store event_of.Close result self.new store }
     {
         let answer = working::close(&mut self.estate);
-        hear(&mut self.estate, &mut self.hub);
+        collect_events(&mut self.estate, &mut self.hub);
         answer
     }
 

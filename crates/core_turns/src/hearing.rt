@@ -4,18 +4,18 @@ ghost use Rattle.std.specs.Option.{option_copied};
 ghost use Rattle.event_hub.specs.Recent.{all_pushed, pushed};
 ghost use Rattle.event_hub.specs.Telling.{IsShort, object_in};
 ghost use Rattle.core_turns.specs.ShortTasks.{AreShort, IsShortTask};
-ghost use Rattle.operations.specs.Kept.{kept_at};
+ghost use Rattle.operations.specs.OperationTable.{kept_at};
 ghost use Rattle.core_instances.specs.core_reports.specs.Waiting.{IsSilent, project_shown, target_shown, told_by};
 ghost use Rattle.core_turns.specs.Hearing.{IsAbout, progress_of};
 
 use core_instances::{Estate, Shown, Waiting};
 use event_hub::{About, Hub, Progress};
-use row_machine::Work;
-use row_readings::{View, kept_at};
+use row_machine::Task;
+use row_readings::{StateRef, kept_at};
 use size_values::ObjectKind;
 
 /// What an operation is about.
-fn about_work(work: &Work) -> About<'_>
+fn about_work(work: &Task) -> About<'_>
     requires short { IsShortTask work.now }
     ensures project { result.project.now ≡ work.now.project }
     ensures object { object_in result ≡ work.now.target }
@@ -31,7 +31,7 @@ fn about_work(work: &Work) -> About<'_>
 }
 
 /// What the operation of a number is about.
-fn about<'x>(view: &View<'x>, number: u64) -> About<'x>
+fn about<'x>(view: &StateRef<'x>, number: u64) -> About<'x>
     requires short { AreShort view.now }
     ensures { IsAbout (kept_at view.now.operations number) result }
 {
@@ -63,7 +63,7 @@ fn progress_of(shown: &Shown) -> Progress
 }
 
 /// Hands a notice to the hub.
-fn tell(view: &View<'_>, hub: &mut Hub, waiting: Waiting)
+fn queue_event(view: &StateRef<'_>, hub: &mut Hub, waiting: Waiting)
     requires short { AreShort view.now }
     ensures { hub.new ≡ pushed (told_by view.now.operations waiting) hub.old }
 {
@@ -76,7 +76,7 @@ fn tell(view: &View<'_>, hub: &mut Hub, waiting: Waiting)
 }
 
 /// Hands all notices that wait to the hub, in their order.
-pub(crate) fn hear(estate: &mut Estate, hub: &mut Hub)
+pub(crate) fn collect_events(estate: &mut Estate, hub: &mut Hub)
     requires short { AreShort estate.old.state }
     ensures told { hub.new ≡ all_pushed estate.old.untold hub.old }
     ensures untold { estate.new.untold ≡ [] }
@@ -84,6 +84,6 @@ pub(crate) fn hear(estate: &mut Estate, hub: &mut Hub)
     ensures silent { IsSilent estate.new.state }
 {
     while let Some(waiting) = estate.take_waiting() {
-        tell(&estate.view(), hub, waiting);
+        queue_event(&estate.view(), hub, waiting);
     }
 }

@@ -10,14 +10,14 @@ ghost use Rattle.records.specs.declared.rows.Instance.{Instance as InstanceValue
 ghost use Rattle.records.specs.declared.rows.Profile.{Profile as ProfileValue};
 ghost use Rattle.records.specs.declared.rows.Row.TheVariants as row_of;
 ghost use Rattle.records.specs.declared.rows.Snapshot.{Snapshot as SnapshotValue};
-ghost use Rattle.row_machine.specs.machine.Task.{Task};
+ghost use Rattle.row_machine.specs.machine.Task.{Task as TaskValue};
 
 use crate::daemon::Daemon;
 use config_lists::{Config, Devices};
 use operations::Operation;
 use records::{Instance, Profile, Row, Snapshot};
-use row_machine::Work;
-use row_readings::View;
+use row_machine::Task;
+use row_readings::StateRef;
 use size_values::Boxed;
 
 /// Settings and devices stand in the order of their keys.
@@ -74,8 +74,8 @@ fn claim_is_ordered(claim: &Option<Row>)
     }
 }
 
-fn claims_are_ordered(live: &[Operation<Work>])
-    ensures { Each (λ (o : OperationValue Task). IfSome o.work.claim IsSortedRow) live.now }
+fn claims_are_ordered(live: &[Operation<Task>])
+    ensures { Each (λ (o : OperationValue TaskValue). IfSome o.work.claim IsSortedRow) live.now }
 {
     for operation in live {
         claim_is_ordered(&operation.work.claim);
@@ -83,7 +83,7 @@ fn claims_are_ordered(live: &[Operation<Work>])
 }
 
 /// Those of all rows and claims do.
-fn rows_are_ordered(view: &View<'_>)
+fn rows_are_ordered(view: &StateRef<'_>)
     ensures { AreSortedRows view.now }
 {
     profiles_are_ordered(view.profiles);

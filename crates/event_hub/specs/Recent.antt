@@ -13,13 +13,13 @@ pub record Recent : Type 0 where
   pub next : ℕ
 
 -- before anything is told
-abbrev pub nothing_told : Recent
-nothing_told = record { notices = []; next = 1 }
+abbrev pub no_notices : Recent
+no_notices = record { notices = []; next = 1 }
 
 -- a notice under a number
 abbrev pub numbered : ℕ → Untold → Notice
 numbered number notice =
-    record { number = number; moment = notice.moment; project = notice.project; told = notice.told }
+    record { number = number; moment = notice.moment; project = notice.project; body = notice.body }
 
 -- a notice gets the next number; where the numbers have come to their end it is dropped
 abbrev pub pushed : Untold → Recent → Recent

@@ -1,7 +1,7 @@
 -- What is told of an operation as it was at a moment.
 use Rattle.std.specs.Prelude.{ℕ, ◌≤◌, List, length}
 use Rattle.records.specs.declared.commands.Target.{Target}
-use Rattle.records.specs.declared.notices.Told.TheVariants as told
+use Rattle.records.specs.declared.notices.EventBody.TheVariants as body
 use Rattle.records.specs.declared.notices.Untold.{Untold}
 use Rattle.records.specs.declared.replies.OpView.{OpView}
 use Rattle.event_hub.specs.declared.progress.About.{About}
@@ -33,7 +33,7 @@ view_by at project target = record {
 -- its notice
 abbrev pub told_by : Progress → List ℕ → Target → Untold
 told_by at project target =
-    record { moment = at.moment; project = project; told = told.Op (view_by at project target) }
+    record { moment = at.moment; project = project; body = body.Op (view_by at project target) }
 
 abbrev pub told_about : Progress → About → Untold
 told_about at about = told_by at about.project.now (object_in about)

@@ -1,6 +1,6 @@
 ghost use Rattle.std.specs.Prelude.{◌≡◌, filter, IfOk};
 ghost use Rattle.event_hub.specs.Contents.{content_of};
-ghost use Rattle.event_hub.specs.Recent.{as_state, is_wanted, nothing_told, oldest_in, pushed};
+ghost use Rattle.event_hub.specs.Recent.{as_state, is_wanted, no_notices, oldest_in, pushed};
 ghost use Rattle.event_hub.specs.Telling.{IsShort, told_about};
 ghost use Rattle.row_machine.specs.shown.Notices.{since};
 
@@ -41,7 +41,7 @@ impl Model for Hub {
 impl Hub {
     /// No notices yet, and the room for all that will be kept. The first one gets number 1.
     pub fn new(alloc: Global) -> Result<Hub, NoMemory>
-        ensures { IfOk result (λ h. h ≡ nothing_told) }
+        ensures { IfOk result (λ h. h ≡ no_notices) }
     {
         let ring = HeapCircularBuffer::with_capacity(alloc, KEPT)?;
         Ok(Hub { ring, next: 1 })

@@ -3,12 +3,12 @@ ghost use Rattle.std.specs.Prelude.{◌≡◌, ◌&&◌, nat_le, IfOk};
 ghost use Rattle.event_hub.specs.Contents.{content_of};
 ghost use Rattle.event_hub.specs.Recent.{is_wanted, numbered};
 ghost use Rattle.event_hub.specs.Telling.{told_by, view_by};
-ghost use Rattle.row_machine.specs.shown.Notices.{takes_told};
+ghost use Rattle.row_machine.specs.shown.Notices.{takes_event};
 
 use crate::progress::Progress;
 use crate::short_target::ShortTarget;
 use crate::short_text::ShortText;
-use records::{Filter, Notice, OpView, Told, Untold};
+use records::{EventBody, Filter, Notice, OpView, Untold};
 use size_values::NoMemory;
 use std::alloc::Global;
 use std::marker::Model;
@@ -38,12 +38,12 @@ impl Model for Slot {
 }
 
 /// Whether a listener takes notices of what this one tells.
-fn is_taken(told: &Told, filter: &Filter) -> bool
-    ensures { result ≡ takes_told filter.now told.now }
+fn is_taken(body: &EventBody, filter: &Filter) -> bool
+    ensures { result ≡ takes_event filter.now body.now }
 {
-    match told {
-        Told::Life { .. } => filter.life,
-        Told::Op(_) => filter.op,
+    match body {
+        EventBody::Life { .. } => filter.life,
+        EventBody::Op(_) => filter.op,
     }
 }
 
@@ -86,7 +86,7 @@ fn operation_notice(
         number,
         moment: at.moment,
         project,
-        told: Told::Op(view),
+        body: EventBody::Op(view),
     })
 }
 
@@ -94,13 +94,13 @@ fn operation_notice(
 fn whole_notice(alloc: Global, number: u64, untold: &Untold) -> Result<Notice, NoMemory>
     ensures { IfOk result (λ n. n ≡ numbered number untold.now) }
 {
-    let told = untold.told.copy(alloc)?;
+    let body = untold.body.copy(alloc)?;
     let project = untold.project.copy(alloc)?;
     Ok(Notice {
         number,
         moment: untold.moment,
         project,
-        told,
+        body,
     })
 }
 
@@ -128,7 +128,7 @@ impl Slot {
         }
         match &self.content {
             Content::Whole(untold) => {
-                untold.project.is(&filter.project) && is_taken(&untold.told, filter)
+                untold.project.is(&filter.project) && is_taken(&untold.body, filter)
             }
             Content::Operation(_, project, _) => project.is(&filter.project) && filter.op,
         }

@@ -7,7 +7,7 @@ use Rattle.operations.specs.declared.operation.Operation.{Operation}
 use Rattle.operations.specs.declared.operation.OpFault.{OpFault}
 use Rattle.operations.specs.declared.status.Status.{Status}
 use Rattle.operations.specs.declared.status.Status.TheVariants as status
-use Rattle.operations.specs.Kept.{live_at}
+use Rattle.operations.specs.OperationTable.{live_at}
 use Rattle.row_machine.specs.declared.changes.RowChange.{RowChange}
 use Rattle.row_machine.specs.declared.events.Answer.{Answer}
 use Rattle.row_machine.specs.declared.events.Answer.TheVariants as answer
@@ -15,13 +15,13 @@ use Rattle.row_machine.specs.declared.events.Event.{Event}
 use Rattle.row_machine.specs.declared.events.Event.TheVariants as event
 use Rattle.row_machine.specs.machine.State.{State}
 use Rattle.row_machine.specs.machine.Task.{Task}
-use Rattle.row_machine.specs.machine.Work.{success_changes}
+use Rattle.row_machine.specs.machine.Operations.{success_changes}
 use Rattle.row_machine.specs.machine.Accept.{After}
 use Rattle.row_machine.specs.machine.Step.{Outcome, well, keeper_failed, no_memory, step, always, call_done}
 use Rattle.row_machine.specs.machine.Step.{call_failed, committed, done, first_pending, handed_out, reported, stray}
 use Rattle.row_machine.specs.machine.Step.{taken, while_cancelling, while_running}
 use Rattle.records.specs.declared.notices.Filter.{Filter}
-use Rattle.gates.specs.Trails.{MayAnswer}
+use Rattle.gates.specs.History.{MayAnswer}
 use Rattle.rest_answers.proofs.ForClients.{Speaks, turned_speaks}
 use Rattle.gates.specs.Answers.{IsForListener, IsForLooker, IsForReporter, IsForTaker}
 

@@ -1,5 +1,5 @@
 pub mod Telling
-pub mod Trailing
+pub mod Histories
 pub mod Walking
 pub mod Answering
-mod Resting
+mod Idling

@@ -6,7 +6,7 @@ pub use Rattle.rest_answers as rest_answers
 pub use Rattle.serial_steps as serial_steps
 pub mod Chains
 pub mod Gates
-pub mod Trails
+pub mod History
 pub mod Answers
 pub mod Moments
 pub mod Alone

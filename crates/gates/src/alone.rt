@@ -1,8 +1,8 @@
 ghost use Rattle.std.specs.Prelude.{◌≡◌, ◌+◌, None, Some};
 ghost use Rattle.serial_steps.specs.core_turns.specs.Turns.{IsServed};
-ghost use Rattle.gates.specs.Trails.{RestsTold, capped};
-ghost use Rattle.serial_steps.specs.Steps.{Step, Steps, hosted, serial, site};
-ghost use Rattle.gates.specs.Alone.{site_of, told_at};
+ghost use Rattle.gates.specs.History.{GateIdle, capped};
+ghost use Rattle.serial_steps.specs.Steps.{Step, Steps, hosted, serial, serial_world};
+ghost use Rattle.gates.specs.Alone.{serial_world_of, contents_at};
 
 use crate::gate::Gate;
 use host_model::{Host, HostCall};
@@ -14,8 +14,8 @@ use std::alloc::Global;
 use std::mem;
 
 /// A gate that owns its server and all that it works on: the keeper, the host and a clock. Nobody
-/// else has turns at it. Its one worker makes a step in each rest: it asks for a call where it has
-/// none in hand, and else makes the call that it has on the host and reports of it.
+/// else has turns at it. Each time that it idles, its one worker makes a step: it asks for a call
+/// where it has none in hand, and else makes the call that it has on the host and reports of it.
 #[derive(Drop)]
 pub struct AloneGate<R: Keeper, H: Host, C: Clock> {
     alloc: Global,
@@ -25,18 +25,18 @@ pub struct AloneGate<R: Keeper, H: Host, C: Clock> {
     clock: C,
     hand: Option<(u64, HostCall)>,
     made: u64,
-    rests: u64,
+    idles: u64,
 }
 
 impl<R: Keeper, H: Host, C: Clock> AloneGate<R, H, C> {
-    /// The gate of this server, whose worker has no call in hand. No turn and no rest was made at
-    /// it yet.
+    /// The gate of this server, whose worker has no call in hand. It made no turn and did not
+    /// idle yet.
     pub fn new(alloc: Global, daemon: Daemon, keeper: R, host: H, clock: C) -> AloneGate<R, H, C>
-        ensures site { site_of R.store H.told H.failures C.readings result
-            ≡ site (serial daemon None) (R.store keeper) (hosted H.told H.failures host)
+        ensures serial_world { serial_world_of R.store H.contents H.failures C.readings result
+            ≡ serial_world (serial daemon None) (R.store keeper) (hosted H.contents H.failures host)
             (C.readings clock) }
         ensures made { result.made ≡ 0 }
-        ensures rests { result.rests ≡ 0 }
+        ensures idles { result.idles ≡ 0 }
     {
         AloneGate {
             alloc,
@@ -46,17 +46,17 @@ impl<R: Keeper, H: Host, C: Clock> AloneGate<R, H, C> {
             clock,
             hand: None,
             made: 0,
-            rests: 0,
+            idles: 0,
         }
     }
 }
 
 impl<R: Keeper, H: Host, C: Clock> Gate for AloneGate<R, H, C> {
-    ghost told = { λ g. Some (told_at (site_of R.store H.told H.failures C.readings g)) };
+    ghost contents = { λ g. Some (contents_at (serial_world_of R.store H.contents H.failures C.readings g)) };
 
     ghost turned = { λ g. g.made };
 
-    ghost rested = { λ g. g.rests };
+    ghost idled = { λ g. g.idles };
 
     fn turn(&mut self, event: Event) -> Answer {
         facts_hold(&self.daemon);
@@ -65,16 +65,16 @@ impl<R: Keeper, H: Host, C: Clock> Gate for AloneGate<R, H, C> {
         answer
     }
 
-    fn rest(&mut self)
-        ensures told { RestsTold
-            (Some (told_at (site_of R.store H.told H.failures C.readings self.old)))
-            (Some (told_at (site_of R.store H.told H.failures C.readings self.new))) }
+    fn idle(&mut self)
+        ensures contents { GateIdle
+            (Some (contents_at (serial_world_of R.store H.contents H.failures C.readings self.old)))
+            (Some (contents_at (serial_world_of R.store H.contents H.failures C.readings self.new))) }
         ensures turned { self.new.made ≡ self.old.made }
-        ensures rested { self.new.rests ≡ capped (self.old.rests + 1) }
+        ensures idled { self.new.idles ≡ capped (self.old.idles + 1) }
 
         // One step of its worker.
-        ensures step { (s : Step) × Steps (site_of R.store H.told H.failures C.readings self.old) s
-            (site_of R.store H.told H.failures C.readings self.new) }
+        ensures step { (s : Step) × Steps (serial_world_of R.store H.contents H.failures C.readings self.old) s
+            (serial_world_of R.store H.contents H.failures C.readings self.new) }
     {
         let hand = self.hand.take();
         let next = go_on(
@@ -87,14 +87,14 @@ impl<R: Keeper, H: Host, C: Clock> Gate for AloneGate<R, H, C> {
         );
         // One call lets the empty hand go; an assignment would do so for each kind of call.
         drop(mem::replace(&mut self.hand, next));
-        self.rests = self.rests.saturating_add(1);
+        self.idles = self.idles.saturating_add(1);
     }
 
     fn made(&self) -> u64 {
         self.made
     }
 
-    fn rests(&self) -> u64 {
-        self.rests
+    fn idles(&self) -> u64 {
+        self.idles
     }
 }

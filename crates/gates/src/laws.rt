@@ -4,7 +4,7 @@ ghost use Rattle.host_model.specs.declared.report.Report.{Report};
 ghost use Rattle.records.specs.declared.notices.Filter.{Filter};
 ghost use Rattle.row_machine.specs.declared.events.Answer.{Answer};
 ghost use Rattle.row_machine.specs.declared.events.Event.TheVariants as event;
-ghost use Rattle.gates.specs.Trails.{MayAnswer};
+ghost use Rattle.gates.specs.History.{MayAnswer};
 ghost use Rattle.gates.specs.Answers.{IsForListener, IsForLooker, IsForReporter, IsForTaker};
 
 /// A look is answered by whether its operation is live.

@@ -11,9 +11,9 @@ mod machine;
 pub use alone::AloneGate;
 pub use gate::Gate;
 pub use laws::{calls_are_answered, events_are_answered, looks_are_answered, reports_are_answered};
-pub use locked::{LONGEST_REST, LockedGate};
+pub use locked::{LONGEST_IDLE, LockedGate};
 pub use machine::DaemonMachine;
 pub use rest_answers::{
-    Asked, Written, answer_for, asked_of, reply_of, write_answer, write_refusal,
+    ReplyOrWait, Written, answer_for, reply_of, reply_or_wait_of, write_answer, write_refusal,
 };
 pub use serial_steps::{Daemon, refused_reply};

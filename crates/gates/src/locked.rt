@@ -10,36 +10,36 @@ use std::sync::{Arc, Wait};
 use std::time::Clock;
 use turnstile::{Ticket, Turnstile};
 
-/// The longest rest, in milliseconds.
-pub const LONGEST_REST: u32 = 100;
+/// How long it idles at most, in milliseconds.
+pub const LONGEST_IDLE: u32 = 100;
 
 /// A gate to the one server that many threads share under a lock. It turns the server by a ticket of
 /// its own, and each of its turns is one event under the lock. Between two of them others have
-/// theirs, so it does not tell the server. In a rest it waits for an event of another one, or for a
-/// short time.
+/// theirs, so it does not show the server. It idles until there is an event of another one, or for
+/// a short time.
 #[derive(Drop)]
 pub struct LockedGate<R: Keeper, L: Ledger, T: Wait + Clock> {
     rt: T,
     turnstile: Arc<Turnstile<DaemonMachine<R>, L>, Global>,
     ticket: Ticket<L>,
-    rests: u64,
+    idles: u64,
 }
 
 impl<R: Keeper, L: Ledger, T: Wait + Clock> LockedGate<R, L, T> {
-    /// The gate of this ticket. No rest was made at it yet.
+    /// The gate of this ticket. It did not idle yet.
     pub fn new(
         rt: T,
         turnstile: Arc<Turnstile<DaemonMachine<R>, L>, Global>,
         ticket: Ticket<L>,
     ) -> LockedGate<R, L, T>
         ensures ticket { result.ticket ≡ ticket }
-        ensures rests { result.rests ≡ 0 }
+        ensures idles { result.idles ≡ 0 }
     {
         LockedGate {
             rt,
             turnstile,
             ticket,
-            rests: 0,
+            idles: 0,
         }
     }
 }
@@ -55,11 +55,11 @@ impl<R: Keeper + Drop, L: Ledger, T: Wait + Clock + Drop> LockedGate<R, L, T> {
 }
 
 impl<R: Keeper, L: Ledger, T: Wait + Clock> Gate for LockedGate<R, L, T> {
-    ghost told = { λ g. None };
+    ghost contents = { λ g. None };
 
     ghost turned = { λ g. g.ticket.made };
 
-    ghost rested = { λ g. g.rests };
+    ghost idled = { λ g. g.idles };
 
     fn turn(&mut self, event: Event) -> Answer {
         let answer = self.turnstile.turn(&self.rt, &mut self.ticket, event);
@@ -68,16 +68,16 @@ impl<R: Keeper, L: Ledger, T: Wait + Clock> Gate for LockedGate<R, L, T> {
         answer
     }
 
-    fn rest(&mut self) {
-        self.turnstile.rest(&self.rt, &self.ticket, LONGEST_REST);
-        self.rests = self.rests.saturating_add(1);
+    fn idle(&mut self) {
+        self.turnstile.idle(&self.rt, &self.ticket, LONGEST_IDLE);
+        self.idles = self.idles.saturating_add(1);
     }
 
     fn made(&self) -> u64 {
         self.ticket.made()
     }
 
-    fn rests(&self) -> u64 {
-        self.rests
+    fn idles(&self) -> u64 {
+        self.idles
     }
 }

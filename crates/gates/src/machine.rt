@@ -1,5 +1,5 @@
 ghost use Rattle.serial_steps.specs.core_turns.specs.Turns.{IsServed};
-ghost use Rattle.gates.specs.Trails.{MayAnswer};
+ghost use Rattle.gates.specs.History.{MayAnswer};
 
 use record_keeper::Keeper;
 use row_machine::{Answer, Event};

@@ -6,11 +6,11 @@ use Rattle.host_model.specs.declared.report.Report.{Report}
 use Rattle.host_model.specs.declared.report.Report.TheVariants.{Done, Failed, NoMemory}
 use Rattle.host_model.specs.Effects.{effect_of}
 
--- the told roots after a call of this report: those of the effect where it was done, and else as they were
+-- the roots that a host shows after a call of this report: those of the effect where it was done, and else as they were
 abbrev pub roots_after : Report → HostCall → Option (List HostRoot) → Option (List HostRoot)
-roots_after Done call told = option_map (effect_of call) told
-roots_after (Failed rise) call told = told
-roots_after NoMemory call told = told
+roots_after Done call contents = option_map (effect_of call) contents
+roots_after (Failed rise) call contents = contents
+roots_after NoMemory call contents = contents
 
 -- a failed report carries the counts before and after
 abbrev pub CarriesCounts : Report → ℕ → ℕ → Type 0

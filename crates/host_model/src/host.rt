@@ -15,16 +15,16 @@ pub struct HostFailed;
 /// Runs the instances. A failure is answered only where the host's count of faults rose in that call. Want of
 /// memory may be answered by any call and is no failure.
 pub trait Host {
-    /// The roots; None where the host doesn't tell them.
-    ghost told: { Self → Option (List HostRootValue) };
+    /// The roots; None where the host doesn't show them.
+    ghost contents: { Self → Option (List HostRootValue) };
 
     /// How many calls failed. The count stops at 2^64 - 1.
     ghost failures: { Self → ℕ };
 
     /// Makes one call. Where it failed or was refused memory, the roots are as before.
     fn call(&mut self, call: &HostCall) -> Result<(), Or<HostFailed>>
-        ensures ok { OnOk result (told self.new ≡ option_map (effect_of call.now) (told self.old)) }
-        ensures err { OnErr result (told self.new ≡ told self.old) }
+        ensures ok { OnOk result (contents self.new ≡ option_map (effect_of call.now) (contents self.old)) }
+        ensures err { OnErr result (contents self.new ≡ contents self.old) }
         ensures cause { HasCauseOrMemory (failures self.old) (failures self.new) result };
 
     /// The count of failures so far.

@@ -49,7 +49,7 @@ impl ModelHost {
 }
 
 impl Host for ModelHost {
-    ghost told = { λ h. Some h.roots };
+    ghost contents = { λ h. Some h.roots };
 
     ghost failures = { λ h. h.calls.failed };
 

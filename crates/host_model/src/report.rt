@@ -15,7 +15,7 @@ pub enum Report {
 
 /// Makes one call on a host and reports its answer: `Done` exactly where the call was Ok.
 pub fn perform<H: Host>(host: &mut H, call: &HostCall) -> Report
-    ensures roots { H.told host.new ≡ roots_after result call.now (H.told host.old) }
+    ensures roots { H.contents host.new ≡ roots_after result call.now (H.contents host.old) }
     ensures counts { CarriesCounts result (H.failures host.old) (H.failures host.new) }
     ensures later { H.failures host.old ≤ H.failures host.new }
 {

@@ -8,9 +8,9 @@ use Rattle.http_heads.specs.declared.search.After.TheVariants.{LineEnd, Other, O
 use Rattle.http_heads.specs.Heads.{line_end, empty_line_end, head_end}
 
 -- the place that the search has come to
-abbrev pub place_of : Search → ℕ
-place_of (Blank n) = n
-place_of (Lines n) = n
+abbrev pub index_of : Search → ℕ
+index_of (Blank n) = n
+index_of (Lines n) = n
 
 -- where the head ends, searched from there on
 abbrev pub resumed : Search → List ℕ → Option ℕ
@@ -25,11 +25,11 @@ pub record FindsSame (search other : Search) (bytes : List ℕ) : Type 0 where
 abbrev pub GoesOn : List ℕ → Search → Result ℕ Search → Type 0
 GoesOn bytes search (Ok len) = resumed search bytes ≡ Some len
 GoesOn bytes search (Err reached) =
-    (resumed search bytes ≡ None) × (place_of reached ≤ length bytes) × FindsSame search reached bytes
+    (resumed search bytes ≡ None) × (index_of reached ≤ length bytes) × FindsSame search reached bytes
 
 -- the search has come to a place in these bytes, and lost nothing on the way
 pub record HasSearched (search : Search) (bytes : List ℕ) : Type 0 where
-  pub within : place_of search ≤ length bytes
+  pub within : index_of search ≤ length bytes
   pub same : (more : List ℕ) → head_end (bytes ++ more) ≡ resumed search (bytes ++ more)
 
 -- the bytes after an LF begin with a line end, or with none, whatever follows them; or they are too few to tell

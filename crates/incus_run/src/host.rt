@@ -28,7 +28,7 @@ impl<'a, T: Eprint, H: Host> WatchedHost<'a, T, H> {
 }
 
 impl<T: Eprint, H: Host> Host for WatchedHost<'_, T, H> {
-    ghost told = { λ h. H.told h };
+    ghost contents = { λ h. H.contents h };
 
     ghost failures = { λ h. H.failures h };
 

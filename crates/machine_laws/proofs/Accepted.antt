@@ -26,9 +26,9 @@ use Rattle.row_machine.specs.machine.Claims.{judged_instances, judged_volumes, a
 use Rattle.row_machine.specs.machine.Usage.{used, loads, amount_for, instance_load, volume_load, claim_load}
 use Rattle.row_machine.specs.machine.SettingRules.{root_missing, profile_missing, devices_miss}
 use Rattle.row_machine.specs.machine.PolicyRules.{forbids_profile, forbids_instance}
-use Rattle.row_machine.specs.machine.LimitRules.{instance_uncounted, volume_uncounts}
-use Rattle.row_machine.specs.opening.Opening.{if_so, rule_of, home_missing, parent_row_missing, profiles_malformed, defaults_missing, settings_invalid, devices_invalid, root_disk_missing, named_row_missing, has_all_features, forbidden, uncountable}
-use Rattle.row_machine.specs.facts.Whole.{IsWhole, IsLinked, AreWithin, claims_of}
+use Rattle.row_machine.specs.machine.LimitRules.{instance_without_amount, volume_lacks_amount}
+use Rattle.row_machine.specs.opening.Opening.{if_so, rule_of, home_missing, parent_row_missing, profiles_malformed, defaults_missing, settings_invalid, devices_invalid, root_disk_missing, named_row_missing, has_all_features, forbidden, row_lacks_amount}
+use Rattle.row_machine.specs.facts.Whole.{IsWhole, HasReferences, AreWithin, claims_of}
 use Rattle.machine_laws.proofs.NamesRise.{Rise-Distinct}
 use Rattle.machine_laws.proofs.NamesRows.{EachRow, rows-each, each-row}
 use Rattle.machine_laws.proofs.LimitsLess.{IsLess, within-less}
@@ -106,7 +106,7 @@ module _ (s : State) (whole : IsWhole s) where
 
   homes : EachRow (λ r. home_missing t r ≡ None) s
   homes =
-      let e = each-row s whole.links.homes in
+      let e = each-row s whole.references.homes in
       record { projects = e.projects; profiles = e.profiles; networks = e.networks; pools = e.pools; volumes = e.volumes; instances = e.instances; snapshots = e.snapshots }
 
   parents : EachRow (λ r. parent_row_missing t r ≡ None) s
@@ -115,9 +115,9 @@ module _ (s : State) (whole : IsWhole s) where
     profiles = record { at = λ r m. refl };
     networks = record { at = λ r m. refl };
     pools = record { at = λ r m. refl };
-    volumes = Each-map (λ v there. unless _ rule.N2 (some_none _ there)) whole.links.volumes;
+    volumes = Each-map (λ v there. unless _ rule.N2 (some_none _ there)) whole.references.volumes;
     instances = record { at = λ r m. refl };
-    snapshots = Each-map (λ r there. unless _ rule.N2 (some_none _ there)) whole.links.snapshots;
+    snapshots = Each-map (λ r there. unless _ rule.N2 (some_none _ there)) whole.references.snapshots;
   }
 
   profiles : EachRow (λ r. profiles_malformed t r ≡ None) s
@@ -127,8 +127,8 @@ module _ (s : State) (whole : IsWhole s) where
     networks = record { at = λ r m. refl };
     pools = record { at = λ r m. refl };
     volumes = record { at = λ r m. refl };
-    instances = Each-map (λ i (linked : IsLinked s i). unless _ rule.N3 (ap not linked.few)) (own-instances whole.links.instances);
-    snapshots = Each-map (λ r few. unless _ rule.N3 (ap not few)) (Each-left (of_live claimed_snapshot s) whole.links.snapshot_profiles);
+    instances = Each-map (λ i (refers : HasReferences s i). unless _ rule.N3 (ap not refers.few)) (own-instances whole.references.instances);
+    snapshots = Each-map (λ r few. unless _ rule.N3 (ap not few)) (Each-left (of_live claimed_snapshot s) whole.references.snapshot_profiles);
   }
 
   defaults : EachRow (λ r. defaults_missing t r ≡ None) s
@@ -177,21 +177,21 @@ module _ (s : State) (whole : IsWhole s) where
     snapshots = record { at = λ r m. refl };
   }
 
-  links : EachRow (λ r. named_row_missing t r ≡ None) s
-  links = record {
+  references : EachRow (λ r. named_row_missing t r ≡ None) s
+  references = record {
     projects = record { at = λ r m. refl };
-    profiles = Each-map (λ r none. untold (same-devices r.project r.devices ∙ none)) whole.links.profiles;
+    profiles = Each-map (λ r none. untold (same-devices r.project r.devices ∙ none)) whole.references.profiles;
     networks = record { at = λ r m. refl };
     pools = record { at = λ r m. refl };
     volumes = record { at = λ r m. refl };
-    instances = Each-map (λ i linked. untold (linked_none i linked)) (own-instances whole.links.instances);
+    instances = Each-map (λ i refers. untold (refers_none i refers)) (own-instances whole.references.instances);
     snapshots = record { at = λ r m. refl };
   } where
-    linked_none : (i : Instance) → IsLinked s i → first_of (λ (o : Option Refusal). o)
+    refers_none : (i : Instance) → HasReferences s i → first_of (λ (o : Option Refusal). o)
         (profile_missing t i ∷ devices_miss t i.project (expanded_of t.projects t.profiles i).devices ∷ []) ≡ None
-    linked_none i linked = none-first_of (λ (o : Option Refusal). o) _
-        (Each-cons _ (same-profiles i ∙ linked.profiles)
-        (Each-cons _ (same-devices i.project (expanded_of s.projects s.profiles i).devices ∙ linked.devices) Each-none))
+    refers_none i refers = none-first_of (λ (o : Option Refusal). o) _
+        (Each-cons _ (same-profiles i ∙ refers.profiles)
+        (Each-cons _ (same-devices i.project (expanded_of s.projects s.profiles i).devices ∙ refers.devices) Each-none))
 
   -- a rule on the objects of a project, where the project of this name meets it
   ruled : (f : Project → Option Refusal) (name : List ℕ) → ((p : Project) → Mem p s.projects → name ≡ p.name → f p ≡ None)
@@ -222,14 +222,14 @@ module _ (s : State) (whole : IsWhole s) where
     snapshots = record { at = λ r m. refl };
   }
 
-  counts : EachRow (λ r. uncountable t r ≡ None) s
+  counts : EachRow (λ r. row_lacks_amount t r ≡ None) s
   counts = record {
     projects = record { at = λ r m. refl };
     profiles = record { at = λ r m. refl };
     networks = record { at = λ r m. refl };
     pools = record { at = λ r m. refl };
-    volumes = record { at = λ v m. ruled (λ p. volume_uncounts p v) v.project (λ p n own. (judged-volumes (within.limits.at p n).volumes).at v m own) };
-    instances = record { at = λ i m. ruled (λ p. instance_uncounted t p i) i.project (λ p n own. (judged (within.limits.at p n).instances).at i m own) };
+    volumes = record { at = λ v m. ruled (λ p. volume_lacks_amount p v) v.project (λ p n own. (judged-volumes (within.limits.at p n).volumes).at v m own) };
+    instances = record { at = λ i m. ruled (λ p. instance_without_amount t p i) i.project (λ p n own. (judged (within.limits.at p n).instances).at i m own) };
     snapshots = record { at = λ r m. refl };
   }
 
@@ -249,7 +249,7 @@ module _ (s : State) (whole : IsWhole s) where
     settings = rows settings;
     devices = rows devices;
     roots = rows roots;
-    links = rows links;
+    references = rows references;
     policy = λ number m. rows (policy number);
     counts = rows counts;
     limits = within-limits t within;

@@ -18,12 +18,12 @@ use Rattle.operations.specs.declared.operation.OpFault.{OpFault}
 use Rattle.operations.specs.declared.status.Status.{Status}
 use Rattle.operations.specs.declared.status.Status.TheVariants as status
 use Rattle.operations.specs.Statuses.{is_pending}
-use Rattle.operations.specs.Kept.{has_number, live_at}
+use Rattle.operations.specs.OperationTable.{has_number, live_at}
 use Rattle.host_model.specs.declared.call.HostCall.{HostCall}
 use Rattle.row_machine.specs.machine.Task.{Task}
 use Rattle.row_machine.specs.machine.State.{State}
 use Rattle.row_machine.specs.machine.Claims.{of_live}
-use Rattle.row_machine.specs.machine.Work.{claiming, entered, with_task, moved, handing_out, ended}
+use Rattle.row_machine.specs.machine.Operations.{claiming, entered, with_task, moved, handing_out, ended}
 use Rattle.row_machine.specs.machine.Step.{first_pending}
 use Rattle.row_machine.specs.facts.Whole.{IsWhole}
 

@@ -17,7 +17,7 @@ use Rattle.operations.specs.declared.operation.OpFault.{OpFault}
 use Rattle.operations.specs.declared.operation.OpFault.TheVariants as fault
 use Rattle.operations.specs.declared.status.Status.TheVariants as status
 use Rattle.operations.specs.declared.status.Status.TheVariants.{Running, Cancelling}
-use Rattle.operations.specs.Kept.{live_at}
+use Rattle.operations.specs.OperationTable.{live_at}
 use Rattle.records.specs.declared.commands.Command.{Command}
 use Rattle.records.specs.declared.notices.Untold.{Untold}
 use Rattle.row_machine.specs.declared.changes.RowChange.{RowChange}
@@ -29,13 +29,13 @@ use Rattle.row_machine.specs.machine.Claims.{share_of}
 use Rattle.row_machine.specs.machine.Plans.{changes, starts}
 use Rattle.row_machine.specs.shown.Notices.{telling}
 use Rattle.row_machine.specs.machine.Step.{first_pending}
-use Rattle.row_machine.specs.machine.Work.{project_of_task, is_held_by, held_share, converted, returned, entered, with_task, moved, handing_out, one_more_done, undone, cancelled, failed, succeeded, ended, success_changes, with_power_after, power_after, after_failure}
+use Rattle.row_machine.specs.machine.Operations.{project_of_task, is_held_by, held_share, converted, returned, entered, with_task, moved, handing_out, one_more_done, undone, cancelled, failed, succeeded, ended, success_changes, with_power_after, power_after, after_failure}
 use Rattle.row_machine.specs.facts.Whole.{IsWhole, AreBalanced}
 use Rattle.machine_laws.proofs.Cases.{IsAccepted, IsLiveAs}
-use Rattle.machine_laws.proofs.BooksSteps.{HasSameWork, applied-same, power-keeps, failure-keeps, telling-keeps}
+use Rattle.machine_laws.proofs.BooksSteps.{HasSameBooking, applied-same, power-keeps, failure-keeps, telling-keeps}
 
 -- where held shares and books are the same
-pub balanced-same : {s t : State} → HasSameWork s t → AreBalanced s → AreBalanced t
+pub balanced-same : {s t : State} → HasSameBooking s t → AreBalanced s → AreBalanced t
 balanced-same {s} {t} same h k =
     ap (λ (b : Books). part k b.granted) same.books ∙ h k
     ∙ sym (ap (λ (b : Books). part k b.converted + part k b.returned + sum_by (λ (x : Hold). part k x.share) t.held) same.books

@@ -3,7 +3,7 @@ use Rattle.std.proofs.Common.{◌≡◌, ℕ, Bool, true, false, cond, Option, S
 use Rattle.size_values.specs.declared.kinds.ObjectKind.{ObjectKind}
 use Rattle.size_values.specs.declared.kinds.ObjectKind.TheVariants as kind
 use Rattle.size_values.specs.declared.kinds.Power.{Power}
-use Rattle.operations.specs.Kept.{Kept}
+use Rattle.operations.specs.OperationTable.{OperationTable}
 use Rattle.reservations.specs.declared.books.Books.{Books}
 use Rattle.records.specs.declared.notices.Untold.{Untold}
 use Rattle.records.specs.declared.notices.Notice.{Notice}
@@ -16,7 +16,7 @@ use Rattle.reservations.specs.declared.books.Hold.{Hold}
 use Rattle.row_machine.specs.machine.State.{State}
 use Rattle.row_machine.specs.machine.Changes.{with_row, without_row, applied}
 use Rattle.row_machine.specs.shown.Notices.{telling, push_notice}
-use Rattle.row_machine.specs.machine.Work.{with_power_after, after_failure}
+use Rattle.row_machine.specs.machine.Operations.{with_power_after, after_failure}
 
 -- what is read off a state that neither a put nor a removal of a row changes, a list of them leaves
 pub applied-read : {X : Type 0} (read : State → X) → ((r : Row) (s : State) → read (with_row r s) ≡ read s)
@@ -27,46 +27,46 @@ applied-read read put removed (change.Put r ∷ cs) s = applied-read read put re
 applied-read read put removed (change.Remove of key ∷ cs) s = applied-read read put removed cs (without_row of key s) ∙ removed of key s
 
 -- the live and ended operations, the held shares and the books
-pub record HasSameWork (s t : State) : Type 0 where
+pub record HasSameBooking (s t : State) : Type 0 where
   pub operations : t.operations ≡ s.operations
   pub held : t.held ≡ s.held
   pub books : t.books ≡ s.books
 
-pub record Work : Type 0 where
-  pub operations : Kept Task
+pub record Booking : Type 0 where
+  pub operations : OperationTable Task
   pub held : List Hold
   pub books : Books
 
-abbrev pub work_in : State → Work
-work_in s = record { operations = s.operations; held = s.held; books = s.books }
+abbrev pub booking_in : State → Booking
+booking_in s = record { operations = s.operations; held = s.held; books = s.books }
 
-pub put-work : (r : Row) (s : State) → work_in (with_row r s) ≡ work_in s
-put-work (row.Project r) s = refl
-put-work (row.Profile r) s = refl
-put-work (row.Network r) s = refl
-put-work (row.Pool r) s = refl
-put-work (row.Volume r) s = refl
-put-work (row.Instance r) s = refl
-put-work (row.Snapshot r) s = refl
+pub put-booking : (r : Row) (s : State) → booking_in (with_row r s) ≡ booking_in s
+put-booking (row.Project r) s = refl
+put-booking (row.Profile r) s = refl
+put-booking (row.Network r) s = refl
+put-booking (row.Pool r) s = refl
+put-booking (row.Volume r) s = refl
+put-booking (row.Instance r) s = refl
+put-booking (row.Snapshot r) s = refl
 
-pub removed-work : (of : ObjectKind) (key : List ℕ) (s : State) → work_in (without_row of key s) ≡ work_in s
-removed-work kind.Project key s = refl
-removed-work kind.Profile key s = refl
-removed-work kind.Network key s = refl
-removed-work kind.Pool key s = refl
-removed-work kind.Volume key s = refl
-removed-work kind.Instance key s = refl
-removed-work kind.Snapshot key s = refl
-removed-work kind.Operation key s = refl
+pub removed-booking : (of : ObjectKind) (key : List ℕ) (s : State) → booking_in (without_row of key s) ≡ booking_in s
+removed-booking kind.Project key s = refl
+removed-booking kind.Profile key s = refl
+removed-booking kind.Network key s = refl
+removed-booking kind.Pool key s = refl
+removed-booking kind.Volume key s = refl
+removed-booking kind.Instance key s = refl
+removed-booking kind.Snapshot key s = refl
+removed-booking kind.Operation key s = refl
 
-pub applied-work : (cs : List RowChange) (s : State) → work_in (applied s cs) ≡ work_in s
-applied-work cs s = applied-read work_in put-work removed-work cs s
+pub applied-booking : (cs : List RowChange) (s : State) → booking_in (applied s cs) ≡ booking_in s
+applied-booking cs s = applied-read booking_in put-booking removed-booking cs s
 
-pub applied-same : (cs : List RowChange) (s : State) → HasSameWork s (applied s cs)
+pub applied-same : (cs : List RowChange) (s : State) → HasSameBooking s (applied s cs)
 applied-same cs s = record {
-  operations = ap (λ (w : Work). w.operations) (applied-work cs s);
-  held = ap (λ (w : Work). w.held) (applied-work cs s);
-  books = ap (λ (w : Work). w.books) (applied-work cs s);
+  operations = ap (λ (w : Booking). w.operations) (applied-booking cs s);
+  held = ap (λ (w : Booking). w.held) (applied-booking cs s);
+  books = ap (λ (w : Booking). w.books) (applied-booking cs s);
 }
 
 -- ---- statuses

@@ -14,7 +14,7 @@ use Rattle.instance_states.specs.Plans.{name_of}
 use Rattle.operations.specs.declared.operation.Operation.{Operation}
 use Rattle.operations.specs.declared.status.Status.TheVariants as status
 use Rattle.operations.specs.Statuses.{cancel_of}
-use Rattle.operations.specs.Kept.{has_number, live_at, kept_at, cancel_answer}
+use Rattle.operations.specs.OperationTable.{has_number, live_at, kept_at, cancel_answer}
 use Rattle.records.specs.declared.commands.What.TheVariants as what
 use Rattle.records.specs.declared.replies.Reply.TheVariants as reply
 use Rattle.records.specs.declared.notices.Untold.{Untold}
@@ -31,7 +31,7 @@ use Rattle.row_machine.specs.machine.TableRules.{cancel_broken, cancel_refusal}
 use Rattle.row_machine.specs.machine.Plans.{plan_of}
 use Rattle.row_machine.specs.shown.Notices.{telling, operation_notice}
 use Rattle.row_machine.specs.machine.Rules.{broken, plan_broken}
-use Rattle.row_machine.specs.machine.Work.{moved}
+use Rattle.row_machine.specs.machine.Operations.{moved}
 use Rattle.row_machine.specs.machine.Accept.{and_then, accepted, with_operation_notice, after_cancel}
 use Rattle.row_machine.specs.machine.Step.{step, well, after_command}
 use Rattle.row_machine.specs.facts.Whole.{IsUnderWay}

@@ -14,7 +14,7 @@ use Rattle.operations.specs.declared.status.Status.{Status}
 use Rattle.operations.specs.declared.status.Status.TheVariants as status
 use Rattle.operations.specs.declared.status.Status.TheVariants.{Running, Cancelling}
 use Rattle.operations.specs.declared.operation.OpFault.TheVariants as fault
-use Rattle.operations.specs.Kept.{Kept, has_number, live_at, kept_at}
+use Rattle.operations.specs.OperationTable.{OperationTable, has_number, live_at, kept_at}
 use Rattle.records.specs.declared.notices.Untold.{Untold}
 use Rattle.row_machine.specs.declared.events.Event.TheVariants as event
 use Rattle.row_machine.specs.declared.events.Answer.TheVariants as answer
@@ -23,7 +23,7 @@ use Rattle.row_machine.specs.machine.State.{State}
 use Rattle.row_machine.specs.opening.Records.{rows_of}
 use Rattle.row_machine.specs.machine.Changes.{applied}
 use Rattle.row_machine.specs.shown.Notices.{telling, operation_notice}
-use Rattle.row_machine.specs.machine.Work.{entered, with_task, moved, handing_out, undone, cancelled, failed, succeeded}
+use Rattle.row_machine.specs.machine.Operations.{entered, with_task, moved, handing_out, undone, cancelled, failed, succeeded}
 use Rattle.row_machine.specs.machine.Accept.{and_then}
 use Rattle.row_machine.specs.machine.Step.{step, well, done, reported, while_cancelling, after_end}
 use Rattle.row_machine.specs.facts.Whole.{IsWhole}
@@ -105,7 +105,7 @@ one-found s o other live other_live same = some-is (sym other_live ∙ ap (live_
   some-is e = cc
 
 -- a change of another one leaves it
-other-changed : (k : Kept Task) (o : Operation Task) (m : ℕ) (f : Operation Task → Operation Task) → ((x : Operation Task) → (f x).number ≡ x.number) → o.number ≢ m
+other-changed : (k : OperationTable Task) (o : Operation Task) (m : ℕ) (f : Operation Task → Operation Task) → ((x : Operation Task) → (f x).number ≡ x.number) → o.number ≢ m
     → find (has_number o.number) (changed_first (has_number m) f k.live) ≡ live_at k o.number
 other-changed k o m f keeps apart = find-changed_other (has_number m) (has_number o.number) f k.live
     (λ y is. (ne_eqb y.number o.number (λ e. apart (sym e ∙ eqb-true y.number m is)), ne_eqb (f y).number o.number (λ e. apart (sym e ∙ keeps y ∙ eqb-true y.number m is))))

@@ -28,7 +28,7 @@ use Rattle.row_machine.specs.machine.State.{State}
 use Rattle.row_machine.specs.machine.Rows.{default_name, project_named, profile_named, network_named, pool_named, volume_named, instance_named, snapshot_named}
 use Rattle.row_machine.specs.machine.Homes.{home_of}
 use Rattle.row_machine.specs.machine.Changes.{applied, rows_put, removal}
-use Rattle.row_machine.specs.shown.Links.{target_of}
+use Rattle.row_machine.specs.shown.Urls.{target_of}
 use Rattle.row_machine.specs.machine.Holders.{busy_with, holder_of, first_user_of}
 use Rattle.row_machine.specs.machine.NameRules.{claims_object}
 use Rattle.row_machine.specs.machine.Rules.{names_broken}
@@ -41,7 +41,7 @@ use Rattle.row_machine.specs.machine.TableRules.{entry_broken, tables_broken}
 use Rattle.row_machine.specs.machine.NewRows.{source_instance, source_snapshot}
 use Rattle.row_machine.specs.machine.Plans.{put_all, moved_row, project_creation, project_change, project_rename, project_deletion, instance_target, snapshot_target}
 use Rattle.row_machine.specs.machine.Tasks.{creation_task, copy, volume_copy, snapshot_creation, update_task, restore_task, rename_task, deletion_task, snapshot_deletion, act_task}
-use Rattle.row_machine.specs.machine.Work.{claiming}
+use Rattle.row_machine.specs.machine.Operations.{claiming}
 pub use Rattle.machine_laws.specs.Accepted.{IsAccepted, IsLiveAs}
 
 -- ---- no rule is broken

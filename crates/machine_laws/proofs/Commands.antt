@@ -96,7 +96,7 @@ profiles-or (Some ps) old e h = e
 pub few-profiles : (s : State) (project name : List ℕ) (i : Instance) → IsWhole s → instance_named s.instances project name ≡ Some i → are_profiles i.profiles ≡ true
 unfolding judged_instances
 few-profiles s project name i h e =
-    (h.links.instances.at i (Mem-left i s.instances (of_live claimed_instance s) (find-some (is_instance project name) s.instances i e).0)).few
+    (h.references.instances.at i (Mem-left i s.instances (of_live claimed_instance s) (find-some (is_instance project name) s.instances i e).0)).few
 
 -- an instance that was found, and is not busy
 pub idle-found : (s : State) (project name : List ℕ) (i : Instance) → instance_named s.instances project name ≡ Some i

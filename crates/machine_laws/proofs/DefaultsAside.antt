@@ -25,12 +25,12 @@ use Rattle.row_machine.specs.machine.Rows.{instance_named, snapshot_named}
 use Rattle.row_machine.specs.machine.Claims.{claimed_instance}
 use Rattle.row_machine.specs.machine.Changes.{applied, changed, removal}
 use Rattle.row_machine.specs.machine.Asked.{snapshots_of}
-use Rattle.row_machine.specs.shown.Links.{target_of}
+use Rattle.row_machine.specs.shown.Urls.{target_of}
 use Rattle.row_machine.specs.shown.Notices.{telling}
-use Rattle.row_machine.specs.machine.Work.{entered, cancelled, failed, succeeded, success_changes, removes_instance, renames_instance, with_power_after, power_after}
+use Rattle.row_machine.specs.machine.Operations.{entered, cancelled, failed, succeeded, success_changes, removes_instance, renames_instance, with_power_after, power_after}
 use Rattle.row_machine.specs.facts.Whole.{HasDefaults, IsByDeed}
 use Rattle.row_machine.specs.machine.Deeds.{claim_kind}
-use Rattle.machine_laws.proofs.LinksOperations.{failure_core, telling_core}
+use Rattle.machine_laws.proofs.ReferencesOperations.{failure_core, telling_core}
 
 pub defaults-same : {s t : State} → t.projects ≡ s.projects → t.profiles ≡ s.profiles → HasDefaults s → HasDefaults t
 defaults-same {s} {t} ps rs h =

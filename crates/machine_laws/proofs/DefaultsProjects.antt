@@ -21,8 +21,8 @@ use Rattle.row_machine.specs.opening.Opening.{has_all_features}
 use Rattle.row_machine.specs.facts.Whole.{IsWhole, AreNamed, HasDefaults}
 use Rattle.machine_laws.proofs.NamesRise.{Rise-Distinct}
 use Rattle.machine_laws.proofs.Found.{profile-found}
-use Rattle.machine_laws.proofs.LinksFinds.{still-there, other-found, other-undropped, left-other, after-put}
-use Rattle.machine_laws.proofs.LinksKeys.{tells-project, tells-profile, keyed-project, drops-project, drops-profile}
+use Rattle.machine_laws.proofs.ReferencesFinds.{still-there, other-found, other-undropped, left-other, after-put}
+use Rattle.machine_laws.proofs.ReferencesKeys.{tells-project, tells-profile, keyed-project, drops-project, drops-profile}
 
 -- whether a project has profiles of its own
 abbrev pub has_profiles : Project → Bool

@@ -29,8 +29,8 @@ use Rattle.row_machine.specs.machine.StandingRules.{feature_keys, changes_featur
 use Rattle.row_machine.specs.machine.Plans.{project_change}
 use Rattle.row_machine.specs.opening.Opening.{has_all_features}
 use Rattle.row_machine.specs.facts.Whole.{IsWhole, AreNamed, HasDefaults}
-use Rattle.machine_laws.proofs.LinksFinds.{other-undropped}
-use Rattle.machine_laws.proofs.LinksKeys.{tells-project, tells-profile, good-rows, key-profile}
+use Rattle.machine_laws.proofs.ReferencesFinds.{other-undropped}
+use Rattle.machine_laws.proofs.ReferencesKeys.{tells-project, tells-profile, good-rows, key-profile}
 use Rattle.machine_laws.proofs.DefaultsFeatures.{tables-accept, features-same}
 use Rattle.machine_laws.proofs.DefaultsProjects.{has_profiles, own_there, profile-still, profile-put, other_project, put-defaults, distinct_projects, default_stays}
 

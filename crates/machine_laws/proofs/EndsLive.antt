@@ -16,7 +16,7 @@ use Rattle.operations.specs.Limits.{most_ended}
 use Rattle.operations.specs.declared.operation.Operation.{Operation}
 use Rattle.operations.specs.declared.operation.OpFault.{OpFault}
 use Rattle.operations.specs.declared.status.Status.{Status}
-use Rattle.operations.specs.Kept.{Kept, has_number, live_at, kept_at, ends}
+use Rattle.operations.specs.OperationTable.{OperationTable, has_number, live_at, kept_at, ends}
 use Rattle.operations.specs.Facts.{AreKept}
 
 -- ---- lists
@@ -59,7 +59,7 @@ find-ring p cap x xs some others passes =
 -- ---- an end
 
 -- the operation that ended is the one kept of its number
-pub found-ended : {W : Type 0} (k : Kept W) (n : ℕ) (now : Status) (why : OpFault) (moment : ℕ) (o : Operation W) → AreKept k → live_at k n ≡ Some o
+pub found-ended : {W : Type 0} (k : OperationTable W) (n : ℕ) (now : Status) (why : OpFault) (moment : ℕ) (o : Operation W) → AreKept k → live_at k n ≡ Some o
     → kept_at (ends n now why moment k) n ≡ Some (record o { status = now; fault = why; updated = moment })
 found-ended {W} k n now why moment o h live = found where
   over : Operation W
@@ -86,10 +86,10 @@ found-ended {W} k n now why moment o h live = found where
       ∙ ap (λ x. option_or x (find (has_number n) (ring_push most_ended over k.ended))) gone
       ∙ find-ring (has_number n) most_ended over k.ended (omega arith) others (eq-eqb o.number n number)
 
-pub kept-ended : {W : Type 0} (k : Kept W) (n : ℕ) (now : Status) (why : OpFault) (moment : ℕ) (o : Operation W) → AreKept k → live_at k n ≡ Some o
+pub kept-ended : {W : Type 0} (k : OperationTable W) (n : ℕ) (now : Status) (why : OpFault) (moment : ℕ) (o : Operation W) → AreKept k → live_at k n ≡ Some o
     → option_map (λ (x : Operation W). x.status) (kept_at (ends n now why moment k) n) ≡ Some now
 kept-ended {W} k n now why moment o h live = ap (option_map (λ (x : Operation W). x.status)) (found-ended k n now why moment o h live)
 
 -- an end of another number leaves an operation live
-pub live-apart : {W : Type 0} (k : Kept W) (n m : ℕ) → n ≢ m → find (has_number n) (dropped (has_number m) k.live) ≡ live_at k n
+pub live-apart : {W : Type 0} (k : OperationTable W) (n m : ℕ) → n ≢ m → find (has_number n) (dropped (has_number m) k.live) ≡ live_at k n
 live-apart {W} k n m differs = find-dropped (has_number m) (has_number n) k.live (λ y is. ne_eqb y.number n (λ same. differs (sym same ∙ eqb-true y.number m is)))

@@ -16,7 +16,7 @@ use Rattle.operations.specs.declared.operation.OpFault.TheVariants as fault
 use Rattle.operations.specs.declared.status.Status.{Status}
 use Rattle.operations.specs.declared.status.Status.TheVariants as status
 use Rattle.operations.specs.declared.status.Status.TheVariants.{Running, Cancelling}
-use Rattle.operations.specs.Kept.{Kept, has_number, live_at, kept_at, ends}
+use Rattle.operations.specs.OperationTable.{OperationTable, has_number, live_at, kept_at, ends}
 use Rattle.records.specs.declared.notices.Untold.{Untold}
 use Rattle.row_machine.specs.machine.Task.{Task}
 use Rattle.reservations.specs.declared.books.Hold.{Hold}
@@ -24,12 +24,12 @@ use Rattle.row_machine.specs.machine.State.{State}
 use Rattle.row_machine.specs.machine.Changes.{applied}
 use Rattle.row_machine.specs.machine.Claims.{share_of}
 use Rattle.row_machine.specs.shown.Notices.{telling}
-use Rattle.row_machine.specs.machine.Work.{is_held_by, held_share, converted, returned, entered, with_task, moved, handing_out, one_more_done, undone, ended, cancelled, failed, succeeded, success_changes, power_after, with_power_after, after_failure}
+use Rattle.row_machine.specs.machine.Operations.{is_held_by, held_share, converted, returned, entered, with_task, moved, handing_out, one_more_done, undone, ended, cancelled, failed, succeeded, success_changes, power_after, with_power_after, after_failure}
 use Rattle.row_machine.specs.facts.Whole.{IsWhole, held_by}
 use Rattle.machine_laws.specs.Headline.{EndsWhole, SharesGoWhole}
 use Rattle.machine_laws.specs.Headline.EndsWhole.{became_its_objects, went_back}
 use Rattle.machine_laws.proofs.Base.{mem-live}
-use Rattle.machine_laws.proofs.BooksSteps.{HasSameWork, applied-same, power-keeps, failure-keeps, telling-keeps}
+use Rattle.machine_laws.proofs.BooksSteps.{HasSameBooking, applied-same, power-keeps, failure-keeps, telling-keeps}
 use Rattle.machine_laws.proofs.Steps.{Alters}
 use Rattle.machine_laws.proofs.Steps.AltersBy.{stays, closes, rows, enters, hands_out, goes_on, takes_back, turns, cancels, fails, succeeds}
 use Rattle.machine_laws.proofs.EndsLive.{found-changed, find-map, kept-ended, live-apart}
@@ -45,7 +45,7 @@ share-held s n o held live =
 
 -- ---- ends, where the state before has the same operations, shares and books
 
-module _ (s t : State) (o : Operation Task) (h : IsWhole s) (live : live_at s.operations o.number ≡ Some o) (same : HasSameWork s t) where
+module _ (s t : State) (o : Operation Task) (h : IsWhole s) (live : live_at s.operations o.number ≡ Some o) (same : HasSameBooking s t) where
   share : held_share t o.number ≡ share_of s o.work
   share = ap (λ hs. option_map_or (λ (h : Hold). h.share) (find (is_held_by o.number) hs) nothing) same.held ∙ share-held s o.number o h.shares live
 
@@ -71,11 +71,11 @@ module _ (s t : State) (o : Operation Task) (h : IsWhole s) (live : live_at s.op
 
 -- ---- notices leave all this
 
-same-itself : (s : State) → HasSameWork s s
+same-itself : (s : State) → HasSameBooking s s
 same-itself s = record { operations = refl; held = refl; books = refl }
 
-pub told-same : (ns : List Untold) (s : State) → HasSameWork s (telling ns s)
-told-same ns s = telling-keeps (HasSameWork s) (λ t some next same. record { operations = same.operations; held = same.held; books = same.books }) ns s (same-itself s)
+pub told-same : (ns : List Untold) (s : State) → HasSameBooking s (telling ns s)
+told-same ns s = telling-keeps (HasSameBooking s) (λ t some next same. record { operations = same.operations; held = same.held; books = same.books }) ns s (same-itself s)
 
 told-ends : (s t : State) (ns : List Untold) (o : Operation Task) → EndsWhole s t o → EndsWhole s (telling ns t) o
 told-ends s t ns o (became_its_objects kept grown stands) = became_its_objects
@@ -100,13 +100,13 @@ failed-goes : (s : State) (o : Operation Task) (why : OpFault) (done moment : �
 unfolding failed
 failed-goes s o why done moment h live =
     ended-back s (after_failure o.work done s) o h live
-    (failure-keeps (HasSameWork s) (λ t powers same. record { operations = same.operations; held = same.held; books = same.books }) o.work done s (same-itself s))
+    (failure-keeps (HasSameBooking s) (λ t powers same. record { operations = same.operations; held = same.held; books = same.books }) o.work done s (same-itself s))
     status.Failure why moment (inl refl)
 
 succeeded-goes : (s : State) (o : Operation Task) (moment : ℕ) → IsWhole s → live_at s.operations o.number ≡ Some o → EndsWhole s (succeeded s o moment) o
 unfolding succeeded
 succeeded-goes s o moment h live =
-    let powered = power-keeps (HasSameWork s) (λ t powers same. record { operations = same.operations; held = same.held; books = same.books }) o.work (power_after s o.work) s (same-itself s) in
+    let powered = power-keeps (HasSameBooking s) (λ t powers same. record { operations = same.operations; held = same.held; books = same.books }) o.work (power_after s o.work) s (same-itself s) in
     let rows = applied-same (success_changes s o.work) (with_power_after o.work (power_after s o.work) s) in
     ended-into s (applied (with_power_after o.work (power_after s o.work) s) (success_changes s o.work)) o h live
     (record { operations = rows.operations ∙ powered.operations; held = rows.held ∙ powered.held; books = rows.books ∙ powered.books })
@@ -145,12 +145,12 @@ cancelled-left s n moment = refl
 pub failed-left : (s : State) (o : Operation Task) (why : OpFault) (done moment : ℕ)
     → (failed s o why done moment).operations.live ≡ dropped (has_number o.number) s.operations.live
 unfolding failed
-failed-left s o why done moment = ap (λ (k : Kept Task). dropped (has_number o.number) k.live)
+failed-left s o why done moment = ap (λ (k : OperationTable Task). dropped (has_number o.number) k.live)
     (failure-keeps (λ t. t.operations ≡ s.operations) (λ t powers e. e) o.work done s refl)
 
 pub succeeded-left : (s : State) (o : Operation Task) (moment : ℕ) → (succeeded s o moment).operations.live ≡ dropped (has_number o.number) s.operations.live
 unfolding succeeded
-succeeded-left s o moment = ap (λ (k : Kept Task). dropped (has_number o.number) k.live)
+succeeded-left s o moment = ap (λ (k : OperationTable Task). dropped (has_number o.number) k.live)
     ((applied-same (success_changes s o.work) (with_power_after o.work (power_after s o.work) s)).operations
     ∙ power-keeps (λ t. t.operations ≡ s.operations) (λ t powers e. e) o.work (power_after s o.work) s refl)
 

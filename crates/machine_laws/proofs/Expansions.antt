@@ -14,10 +14,10 @@ use Rattle.row_machine.specs.machine.Homes.{home_of}
 use Rattle.row_machine.specs.machine.Expansions.{layer_of, own_layer, layers_by, expanded_of}
 use Rattle.row_machine.specs.machine.Claims.{amounts_of_instance}
 use Rattle.row_machine.specs.machine.SettingRules.{root_missing, is_one}
-use Rattle.row_machine.specs.machine.LimitRules.{instance_uncounted, object_uncounted}
+use Rattle.row_machine.specs.machine.LimitRules.{instance_without_amount, object_without_amount}
 use Rattle.project_limits.specs.Instance.{instance_amounts}
 use Rattle.project_limits.specs.Limits.{limits_of}
-use Rattle.project_limits.specs.Countable.{first_uncounted}
+use Rattle.project_limits.specs.Countable.{first_without_amount}
 use Rattle.config_lists.specs.Devices.{root_of}
 use Rattle.row_machine.specs.machine.Refusals.{on_name}
 use Rattle.records.specs.declared.refusals.Rule.TheVariants as rule
@@ -56,9 +56,9 @@ pub root-alike : {s t : State} {i : Instance} → IsAlike s t i → root_missing
 unfolding root_missing
 root-alike {i} h = ap (λ (e : Expanded). if is_one (root_of e.devices) then None else Some (on_name rule.V4 i.name)) (expanded-alike h)
 
-pub uncounted-alike : {s t : State} {i : Instance} (p : Project) → IsAlike s t i → instance_uncounted t p i ≡ instance_uncounted s p i
-unfolding instance_uncounted
-uncounted-alike {i} p h = ap (λ (e : Expanded). object_uncounted p i.name (first_uncounted (limits_of p.config) i.kind e.config e.devices)) (expanded-alike h)
+pub without_amount-alike : {s t : State} {i : Instance} (p : Project) → IsAlike s t i → instance_without_amount t p i ≡ instance_without_amount s p i
+unfolding instance_without_amount
+without_amount-alike {i} p h = ap (λ (e : Expanded). object_without_amount p i.name (first_without_amount (limits_of p.config) i.kind e.config e.devices)) (expanded-alike h)
 
 pub forbids-alike : {s t : State} {i : Instance} (p : Project) (number : ℕ) → IsAlike s t i → forbids_instance t p number i ≡ forbids_instance s p number i
 unfolding forbids_instance

@@ -25,8 +25,8 @@ use Rattle.row_machine.specs.machine.Task.{Task}
 use Rattle.row_machine.specs.machine.State.{State}
 use Rattle.row_machine.specs.machine.Rows.{default_name, project_named, profile_named}
 use Rattle.row_machine.specs.machine.Claims.{of_live, claimed_instance, judged_instances, replaced_instance}
-use Rattle.row_machine.specs.shown.Links.{target_of}
-use Rattle.row_machine.specs.machine.Holders.{names_profile, claim_rows, holder_of, first_user_of, user_link}
+use Rattle.row_machine.specs.shown.Urls.{target_of}
+use Rattle.row_machine.specs.machine.Holders.{names_profile, claim_rows, holder_of, first_user_of, user_url}
 use Rattle.row_machine.specs.machine.SettingRules.{profile_missing}
 use Rattle.row_machine.specs.machine.StandingRules.{is_occupied}
 use Rattle.row_machine.specs.opening.Opening.{has_all_features}
@@ -84,9 +84,9 @@ pub judged-home : (s : State) (i : Instance) → IsWhole s → Mem i (judged_ins
 judged-home s i h m = at (judged-as s i m) where
   at : IsJudgedAs s i → is_some (project_named s.projects i.project) ≡ true
   at (as_row there) = some-from (project_named s.projects i.project)
-      (or-false (is_none (project_named s.projects i.project)) _ (told_if _ rule.N1 ((each-row s h.links.homes).instances.at i there))).0
+      (or-false (is_none (project_named s.projects i.project)) _ (told_if _ rule.N1 ((each-row s h.references.homes).instances.at i there))).0
   at (as_claim o live claimed is) =
-      let placed = h.links.operations.at o live in
+      let placed = h.references.operations.at o live in
       ap (λ p. is_some (project_named s.projects p)) (placed.claim_project (row.Instance i) is) ∙ placed.project
 
 pub default-there : (s : State) → IsWhole s → is_some (project_named s.projects default_name) ≡ true
@@ -117,7 +117,7 @@ unoccupied s name i h empty m in_it = at (judged-as s i m) where
       ∙ ap (λ n. bytes_eq n name) in_it ∙ bytes_eq-itself name)
   at (as_claim o live claimed is) =
       false≢true (sym ((any-none (λ (x : Operation Task). bytes_eq x.work.project name) s.operations.live (empty-parts s name empty).1).at o live)
-      ∙ ap (λ n. bytes_eq n name) (sym ((h.links.operations.at o live).claim_project (row.Instance i) is) ∙ in_it) ∙ bytes_eq-itself name)
+      ∙ ap (λ n. bytes_eq n name) (sym ((h.references.operations.at o live).claim_project (row.Instance i) is) ∙ in_it) ∙ bytes_eq-itself name)
 
 -- and in none that is not there
 pub not-missing : (s : State) (name : List ℕ) (i : Instance) → IsWhole s → project_named s.projects name ≡ None → Mem i (judged_instances s) → i.project ≢ name
@@ -135,8 +135,8 @@ unfolding profile_missing
 named-there s i home profile h m names =
     let parts = both_true (bytes_eq (home_in s i) home) (list_any (λ name. bytes_eq name profile) i.profiles) names in
     let one = any-some (λ name. bytes_eq name profile) i.profiles parts.1 in
-    let linked = (h.links.instances.at i m).profiles in
-    let there = (find-none (λ name. is_none (profile_named s.profiles (home_in s i) name)) i.profiles (not_mapped _ _ linked)).at one.0 one.1.0 in
+    let refers = (h.references.instances.at i m).profiles in
+    let there = (find-none (λ name. is_none (profile_named s.profiles (home_in s i) name)) i.profiles (not_mapped _ _ refers)).at one.0 one.1.0 in
     ap (λ p. is_some (profile_named s.profiles p profile)) (sym (same (home_in s i) home parts.0))
     ∙ ap (λ n. is_some (profile_named s.profiles (home_in s i) n)) (sym (same one.0 profile one.1.1))
     ∙ some-from (profile_named s.profiles (home_in s i) one.0) there
@@ -154,12 +154,12 @@ pub unnamed : (s : State) (r : Profile) (i : Instance) → first_user_of s r.pro
     → Mem i (judged_instances s) → names_profile s r.project r.name i ≡ false
 unfolding first_user_of
 unnamed s r i unused none m = at (judged-as s i m) where
-  link : (b : Bool) (x : Row) → user_link b x ≡ None → b ≡ false
-  link true x h = absurd (cc)
-  link false x h = refl
+  url : (b : Bool) (x : Row) → user_url b x ≡ None → b ≡ false
+  url true x h = absurd (cc)
+  url false x h = refl
 
   at : IsJudgedAs s i → names_profile s r.project r.name i ≡ false
-  at (as_row there) = link (names_profile s r.project r.name i) (row.Instance i)
-      ((first_of-none (λ (j : Instance). user_link (names_profile s r.project r.name j) (row.Instance j)) s.instances unused).at i there)
+  at (as_row there) = url (names_profile s r.project r.name i) (row.Instance i)
+      ((first_of-none (λ (j : Instance). user_url (names_profile s r.project r.name j) (row.Instance j)) s.instances unused).at i there)
   at (as_claim o live claimed is) = unheld s r.project r.name o i none live
       (subst (λ c. Mem i (option_to_list c ++ option_to_list (replaced_instance s o.work))) (sym claimed) (inl refl))

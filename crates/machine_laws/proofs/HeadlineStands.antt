@@ -23,7 +23,7 @@ use Rattle.project_limits.specs.declared.sums.SumKey.{SumKey}
 use Rattle.project_limits.specs.Limits.{limits_of}
 use Rattle.plain_lists.proofs.FirstLemmas.{not_mapped}
 use Rattle.records.specs.declared.refusals.Rule.TheVariants as rule
-use Rattle.row_machine.specs.machine.LimitRules.{object_uncounted, sum_text, instance_uncounted, volume_uncounts}
+use Rattle.row_machine.specs.machine.LimitRules.{object_without_amount, sum_text, instance_without_amount, volume_lacks_amount}
 use Rattle.records.specs.declared.rows.Project.{Project}
 use Rattle.records.specs.declared.rows.Instance.{Instance}
 use Rattle.row_machine.specs.machine.State.{State}
@@ -50,16 +50,16 @@ used-part s project part_of.Processes = refl
 used-part s project part_of.Disk = refl
 
 -- what no rule tells of is countable
-countable : (p : Project) (name : List ℕ) (key : Option SumKey) → object_uncounted p name key ≡ None → key ≡ None
-countable p name key e = not_mapped (λ k. on_key_of rule.L0 (sum_text k) name p.name) key e
+has_amounts : (p : Project) (name : List ℕ) (key : Option SumKey) → object_without_amount p name key ≡ None → key ≡ None
+has_amounts p name key e = not_mapped (λ k. on_key_of rule.L0 (sum_text k) name p.name) key e
 
 keeps-limits : (s : State) (p : Project) → IsWithin s p → KeepsLimits s p
-unfolding instance_uncounted volume_uncounts
+unfolding instance_without_amount volume_lacks_amount
 keeps-limits s p h = record {
   usage = λ k. subst (λ n. IfSome (limit_on k (limits_of p.config)) (λ limit. n ≤ limit)) (sym (used-part s p.name k)) (h.parts k);
   networks = h.networks;
-  instances = Each-map (λ i none of. countable p i.name _ (none of)) h.instances;
-  volumes = Each-map (λ v none of. countable p v.name _ (none of)) h.volumes;
+  instances = Each-map (λ i none of. has_amounts p i.name _ (none of)) h.instances;
+  volumes = Each-map (λ v none of. has_amounts p v.name _ (none of)) h.volumes;
 }
 
 -- ---- policy

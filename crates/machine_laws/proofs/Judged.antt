@@ -7,7 +7,7 @@ use Rattle.row_machine.specs.declared.changes.RowChange.{RowChange}
 use Rattle.row_machine.specs.machine.Task.{Task}
 use Rattle.row_machine.specs.machine.State.{State}
 use Rattle.row_machine.specs.machine.Changes.{applied, rows_put}
-use Rattle.row_machine.specs.machine.Work.{claiming}
+use Rattle.row_machine.specs.machine.Operations.{claiming}
 use Rattle.row_machine.specs.machine.Rules.{names_broken}
 use Rattle.row_machine.specs.machine.Rules.{standing_broken}
 use Rattle.row_machine.specs.machine.SettingRules.{settings_broken}

@@ -28,7 +28,7 @@ use Rattle.row_machine.specs.machine.Task.{Task}
 use Rattle.row_machine.specs.machine.State.{State}
 use Rattle.row_machine.specs.machine.Claims.{of_live, claimed_instance, claimed_volume, judged_instances, judged_volumes}
 use Rattle.row_machine.specs.machine.Usage.{used, networks_of}
-use Rattle.row_machine.specs.machine.LimitRules.{limit_exceeded, over_refusal, part_exceeds, networks_exceed, limits_broken, instance_uncounted, volume_uncounts, claim_uncounted, project_uncounted, counts_broken}
+use Rattle.row_machine.specs.machine.LimitRules.{limit_exceeded, over_refusal, part_exceeds, networks_exceed, limits_broken, instance_without_amount, volume_lacks_amount, claim_without_amount, project_without_amount, counts_broken}
 use Rattle.row_machine.specs.machine.PolicyRules.{forbids_profile, forbids_instance, project_forbids, policy_broken, subject_of}
 use Rattle.row_machine.specs.facts.Whole.{AreWithin}
 use Rattle.machine_laws.proofs.LimitsForbidden.{rule_numbers, is_rule, forbids-none, rule-or_not}
@@ -89,56 +89,56 @@ module _ (s later : State) where
 
 module _ (s : State) (h : counts_broken s ≡ None) (p : Project) (m : Mem p s.projects) where
   pub record IsCounted : Type 0 where
-    pub instances : first_of (instance_uncounted s p) (filter (λ i. bytes_eq i.project p.name) s.instances) ≡ None
-    pub volumes : first_of (volume_uncounts p) (filter (λ v. bytes_eq v.project p.name) s.volumes) ≡ None
-    pub claims : first_of (λ (o : Operation Task). claim_uncounted s p o.work) s.operations.live ≡ None
+    pub instances : first_of (instance_without_amount s p) (filter (λ i. bytes_eq i.project p.name) s.instances) ≡ None
+    pub volumes : first_of (volume_lacks_amount p) (filter (λ v. bytes_eq v.project p.name) s.volumes) ≡ None
+    pub claims : first_of (λ (o : Operation Task). claim_without_amount s p o.work) s.operations.live ≡ None
 
   counted : IsCounted
   unfolding counts_broken
   counted =
-      let at = (first_of-none (project_uncounted s) s.projects h).at p m in
-      let a = none_both (first_of (instance_uncounted s p) (filter (λ i. bytes_eq i.project p.name) s.instances)) _ at in
-      let b = none_both (first_of (volume_uncounts p) (filter (λ v. bytes_eq v.project p.name) s.volumes)) _ a.1 in
-      let c = none_both (first_of (λ (o : Operation Task). claim_uncounted s p o.work) s.operations.live) None b.1 in
+      let at = (first_of-none (project_without_amount s) s.projects h).at p m in
+      let a = none_both (first_of (instance_without_amount s p) (filter (λ i. bytes_eq i.project p.name) s.instances)) _ at in
+      let b = none_both (first_of (volume_lacks_amount p) (filter (λ v. bytes_eq v.project p.name) s.volumes)) _ a.1 in
+      let c = none_both (first_of (λ (o : Operation Task). claim_without_amount s p o.work) s.operations.live) None b.1 in
       record { instances = a.0; volumes = b.0; claims = c.0 }
 
   own : (project : List ℕ) → project ≡ p.name → bytes_eq project p.name ≡ true
   own project is = ap (λ n. bytes_eq n p.name) is ∙ bytes_eq-itself p.name
 
-  pub counted-instance : (i : Instance) → Mem i (judged_instances s) → i.project ≡ p.name → instance_uncounted s p i ≡ None
+  pub counted-instance : (i : Instance) → Mem i (judged_instances s) → i.project ≡ p.name → instance_without_amount s p i ≡ None
   unfolding judged_instances
   counted-instance i n is = at (Mem-append i s.instances (of_live claimed_instance s) n) where
-    claim : (o : Operation Task) → Mem o s.operations.live → claimed_instance o.work ≡ Some i → instance_uncounted s p i ≡ None
+    claim : (o : Operation Task) → Mem o s.operations.live → claimed_instance o.work ≡ Some i → instance_without_amount s p i ≡ None
     claim o live claimed =
-        let one = (first_of-none (λ (x : Operation Task). claim_uncounted s p x.work) s.operations.live counted.claims).at o live in
-        let both = none_both (first_of (instance_uncounted s p) (filter (λ j. bytes_eq j.project p.name) (option_to_list (claimed_instance o.work)))) _ one in
-        let listed : first_of (instance_uncounted s p) (filter (λ (j : Instance). bytes_eq j.project p.name) (i ∷ [])) ≡ None =
-        ap (λ c. first_of (instance_uncounted s p) (filter (λ (j : Instance). bytes_eq j.project p.name) (option_to_list c))) (sym claimed) ∙ both.0 in
-        (first_of-none (instance_uncounted s p) (filter (λ (j : Instance). bytes_eq j.project p.name) (i ∷ [])) listed).at i
+        let one = (first_of-none (λ (x : Operation Task). claim_without_amount s p x.work) s.operations.live counted.claims).at o live in
+        let both = none_both (first_of (instance_without_amount s p) (filter (λ j. bytes_eq j.project p.name) (option_to_list (claimed_instance o.work)))) _ one in
+        let listed : first_of (instance_without_amount s p) (filter (λ (j : Instance). bytes_eq j.project p.name) (i ∷ [])) ≡ None =
+        ap (λ c. first_of (instance_without_amount s p) (filter (λ (j : Instance). bytes_eq j.project p.name) (option_to_list c))) (sym claimed) ∙ both.0 in
+        (first_of-none (instance_without_amount s p) (filter (λ (j : Instance). bytes_eq j.project p.name) (i ∷ [])) listed).at i
         (Mem-filter (λ (j : Instance). bytes_eq j.project p.name) i (i ∷ []) (inl refl) (own i.project is))
 
-    at : Mem i s.instances ⊎ Mem i (of_live claimed_instance s) → instance_uncounted s p i ≡ None
-    at (inl row) = (first_of-none (instance_uncounted s p) (filter (λ j. bytes_eq j.project p.name) s.instances) counted.instances).at i
+    at : Mem i s.instances ⊎ Mem i (of_live claimed_instance s) → instance_without_amount s p i ≡ None
+    at (inl row) = (first_of-none (instance_without_amount s p) (filter (λ j. bytes_eq j.project p.name) s.instances) counted.instances).at i
         (Mem-filter (λ (j : Instance). bytes_eq j.project p.name) i s.instances row (own i.project is))
     at (inr claimed) =
         let found = Mem-from_read (λ (o : Operation Task). claimed_instance o.work) i s.operations.live claimed in
         claim found.0 found.1.0 found.1.1
 
-  pub counted-volume : (v : Volume) → Mem v (judged_volumes s) → v.project ≡ p.name → volume_uncounts p v ≡ None
+  pub counted-volume : (v : Volume) → Mem v (judged_volumes s) → v.project ≡ p.name → volume_lacks_amount p v ≡ None
   unfolding judged_volumes
   counted-volume v n is = at (Mem-append v s.volumes (of_live claimed_volume s) n) where
-    claim : (o : Operation Task) → Mem o s.operations.live → claimed_volume o.work ≡ Some v → volume_uncounts p v ≡ None
+    claim : (o : Operation Task) → Mem o s.operations.live → claimed_volume o.work ≡ Some v → volume_lacks_amount p v ≡ None
     claim o live claimed =
-        let one = (first_of-none (λ (x : Operation Task). claim_uncounted s p x.work) s.operations.live counted.claims).at o live in
-        let both = none_both (first_of (instance_uncounted s p) (filter (λ j. bytes_eq j.project p.name) (option_to_list (claimed_instance o.work)))) _ one in
-        let of = none_both (first_of (volume_uncounts p) (filter (λ w. bytes_eq w.project p.name) (option_to_list (claimed_volume o.work)))) None both.1 in
-        let listed : first_of (volume_uncounts p) (filter (λ (w : Volume). bytes_eq w.project p.name) (v ∷ [])) ≡ None =
-        ap (λ c. first_of (volume_uncounts p) (filter (λ (w : Volume). bytes_eq w.project p.name) (option_to_list c))) (sym claimed) ∙ of.0 in
-        (first_of-none (volume_uncounts p) (filter (λ (w : Volume). bytes_eq w.project p.name) (v ∷ [])) listed).at v
+        let one = (first_of-none (λ (x : Operation Task). claim_without_amount s p x.work) s.operations.live counted.claims).at o live in
+        let both = none_both (first_of (instance_without_amount s p) (filter (λ j. bytes_eq j.project p.name) (option_to_list (claimed_instance o.work)))) _ one in
+        let of = none_both (first_of (volume_lacks_amount p) (filter (λ w. bytes_eq w.project p.name) (option_to_list (claimed_volume o.work)))) None both.1 in
+        let listed : first_of (volume_lacks_amount p) (filter (λ (w : Volume). bytes_eq w.project p.name) (v ∷ [])) ≡ None =
+        ap (λ c. first_of (volume_lacks_amount p) (filter (λ (w : Volume). bytes_eq w.project p.name) (option_to_list c))) (sym claimed) ∙ of.0 in
+        (first_of-none (volume_lacks_amount p) (filter (λ (w : Volume). bytes_eq w.project p.name) (v ∷ [])) listed).at v
         (Mem-filter (λ (w : Volume). bytes_eq w.project p.name) v (v ∷ []) (inl refl) (own v.project is))
 
-    at : Mem v s.volumes ⊎ Mem v (of_live claimed_volume s) → volume_uncounts p v ≡ None
-    at (inl row) = (first_of-none (volume_uncounts p) (filter (λ w. bytes_eq w.project p.name) s.volumes) counted.volumes).at v
+    at : Mem v s.volumes ⊎ Mem v (of_live claimed_volume s) → volume_lacks_amount p v ≡ None
+    at (inl row) = (first_of-none (volume_lacks_amount p) (filter (λ w. bytes_eq w.project p.name) s.volumes) counted.volumes).at v
         (Mem-filter (λ (w : Volume). bytes_eq w.project p.name) v s.volumes row (own v.project is))
     at (inr claimed) =
         let found = Mem-from_read (λ (o : Operation Task). claimed_volume o.work) v s.operations.live claimed in

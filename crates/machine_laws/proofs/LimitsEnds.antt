@@ -19,7 +19,7 @@ use Rattle.size_values.specs.declared.kinds.Deed.{Deed}
 use Rattle.size_values.specs.declared.kinds.Deed.TheVariants as deed
 use Rattle.size_values.specs.declared.kinds.ObjectKind.TheVariants as kind
 use Rattle.operations.specs.declared.operation.Operation.{Operation}
-use Rattle.operations.specs.Kept.{has_number, live_at}
+use Rattle.operations.specs.OperationTable.{has_number, live_at}
 use Rattle.records.specs.declared.commands.Target.{Target}
 use Rattle.records.specs.declared.rows.Volume.{Volume}
 use Rattle.records.specs.declared.rows.Instance.{Instance}
@@ -32,7 +32,7 @@ use Rattle.row_machine.specs.machine.Rows.{is_instance, is_volume, instance_name
 use Rattle.row_machine.specs.machine.Changes.{has_key}
 use Rattle.row_machine.specs.machine.Expansions.{expanded_of}
 use Rattle.row_machine.specs.machine.Claims.{claimed_instance, replaced_instance, amounts_of_instance, amounts_of, share_of, share_over, project_of_row}
-use Rattle.row_machine.specs.shown.Links.{target_of}
+use Rattle.row_machine.specs.shown.Urls.{target_of}
 use Rattle.row_machine.specs.machine.Usage.{used, amount_for}
 use Rattle.row_machine.specs.facts.Whole.{IsWhole, IsByDeed, IsPlaced, IsRenamed}
 use Rattle.row_machine.specs.machine.Deeds.{claim_kind, replaces_target}
@@ -120,7 +120,7 @@ module _ (s : State) (o : Operation Task) (h : IsWhole s) (live : live_at s.oper
   deeds = h.operations.deeds.at o o_live
 
   placed : IsPlaced s o.work
-  placed = h.links.operations.at o o_live
+  placed = h.references.operations.at o o_live
 
   abbrev by_names : Option (List ℕ × List ℕ) → Option Instance
   by_names names = option_and_then (λ (n : List ℕ × List ℕ). instance_named s.instances n.0 n.1) names

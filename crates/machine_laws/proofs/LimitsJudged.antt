@@ -8,7 +8,7 @@ use Rattle.plain_lists.proofs.Readings.{Mem-read, Mem-from_read}
 use Rattle.plain_lists.proofs.EditLemmas.{Mem-dropped}
 use Rattle.plain_lists.proofs.Searches.{find-some}
 use Rattle.operations.specs.declared.operation.Operation.{Operation}
-use Rattle.operations.specs.Kept.{has_number, live_at}
+use Rattle.operations.specs.OperationTable.{has_number, live_at}
 use Rattle.records.specs.declared.rows.Volume.{Volume}
 use Rattle.records.specs.declared.rows.Instance.{Instance}
 use Rattle.records.specs.declared.rows.Row.TheVariants as row

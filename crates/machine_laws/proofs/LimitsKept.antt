@@ -9,8 +9,8 @@ use Rattle.operations.specs.declared.operation.OpFault.TheVariants as fault
 use Rattle.operations.specs.declared.status.Status.{Status}
 use Rattle.operations.specs.declared.status.Status.TheVariants as status
 use Rattle.operations.specs.declared.status.Status.TheVariants.{Running, Cancelling}
-use Rattle.operations.specs.Kept.{Kept, has_number, live_at}
-use Rattle.operations.specs.Kept as kept
+use Rattle.operations.specs.OperationTable.{OperationTable, has_number, live_at}
+use Rattle.operations.specs.OperationTable as kept
 use Rattle.records.specs.declared.commands.Command.{Command}
 use Rattle.records.specs.declared.notices.Untold.{Untold}
 use Rattle.row_machine.specs.declared.changes.RowChange.{RowChange}
@@ -22,7 +22,7 @@ use Rattle.row_machine.specs.machine.Usage.{loads, used}
 use Rattle.row_machine.specs.machine.Plans.{changes, starts}
 use Rattle.row_machine.specs.shown.Notices.{telling}
 use Rattle.row_machine.specs.machine.Step.{first_pending}
-use Rattle.row_machine.specs.machine.Work.{claiming, converted, returned, entered, with_task, moved, handing_out, one_more_done, undone, cancelled, failed, succeeded, ended, success_changes, with_power_after, power_after, after_failure}
+use Rattle.row_machine.specs.machine.Operations.{claiming, converted, returned, entered, with_task, moved, handing_out, one_more_done, undone, cancelled, failed, succeeded, ended, success_changes, with_power_after, power_after, after_failure}
 use Rattle.row_machine.specs.facts.Whole.{IsWhole, AreWithin}
 use Rattle.machine_laws.proofs.Cases.{IsAccepted, IsLiveAs}
 use Rattle.machine_laws.proofs.Judged.{judged, entry_judged}

@@ -17,7 +17,7 @@ use Rattle.row_machine.specs.machine.Claims.{judged_instances, judged_volumes}
 use Rattle.row_machine.specs.machine.Usage.{used, networks_of}
 use Rattle.row_machine.specs.machine.PolicyRules.{forbids_profile}
 use Rattle.row_machine.specs.facts.Whole.{IsWithin, IsClean, AreWithin}
-use Rattle.machine_laws.proofs.Expansions.{uncounted-alike, forbids-alike}
+use Rattle.machine_laws.proofs.Expansions.{without_amount-alike, forbids-alike}
 use Rattle.machine_laws.proofs.ExpansionsRows.{alike-rows}
 
 -- the later state has the same projects, profiles and networks, judges nothing that was not judged, and uses no more
@@ -46,7 +46,7 @@ within-less s t less h = record {
   within p w = record {
     parts = λ k. within-some (limit_on k (limits_of p.config)) (used s p.name k) (used t p.name k) (less.usage p.name k) (w.parts k);
     networks = subst (λ n. IfSome (limits_of p.config).networks (λ limit. n ≤ limit)) (sym (networks-same s t p.name less.networks)) w.networks;
-    instances = record { at = λ i m own. uncounted-alike p (alike-rows s t i less.projects less.profiles) ∙ w.instances.at i (less.instances i m) own };
+    instances = record { at = λ i m own. without_amount-alike p (alike-rows s t i less.projects less.profiles) ∙ w.instances.at i (less.instances i m) own };
     volumes = record { at = λ v m own. w.volumes.at v (less.volumes v m) own };
   }
 

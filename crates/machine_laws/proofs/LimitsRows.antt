@@ -22,7 +22,7 @@ use Rattle.row_machine.specs.machine.Task.{Task}
 use Rattle.row_machine.specs.machine.State.{State}
 use Rattle.row_machine.specs.machine.Rows.{with_instance, with_volume, instance_named}
 use Rattle.row_machine.specs.machine.Changes.{has_key, with_row, without_row, applied, removal}
-use Rattle.row_machine.specs.shown.Links.{target_of}
+use Rattle.row_machine.specs.shown.Urls.{target_of}
 use Rattle.row_machine.specs.machine.Deeds.{claim_kind, keeps_name, replaces_target, target_kind}
 
 -- the rows that limits and policy read

@@ -5,10 +5,10 @@ use Rattle.std.specs.List.{sum_by}
 use Rattle.plain_lists.specs.Members.{Mem}
 use Rattle.plain_lists.specs.Edits.{dropped}
 use Rattle.operations.specs.declared.operation.Operation.{Operation}
-use Rattle.operations.specs.Kept.{Kept, has_number, live_at}
+use Rattle.operations.specs.OperationTable.{OperationTable, has_number, live_at}
 use Rattle.row_machine.specs.machine.Task.{Task}
 use Rattle.records.specs.declared.notices.Notice.{Notice}
-use Rattle.row_machine.specs.machine.State.{State, Standing}
+use Rattle.row_machine.specs.machine.State.{State, InstancePower}
 use Rattle.row_machine.specs.machine.Claims.{claimed_instance, claimed_volume, judged_instances, judged_volumes, share_of, amounts_of_instance}
 use Rattle.row_machine.specs.machine.Usage.{Load, loads, used, claim_load, amount_for, instance_load, volume_load}
 use Rattle.row_machine.specs.facts.Whole.{IsWhole, AreWithin}
@@ -25,7 +25,7 @@ unfolding share_of
 core-load s task = refl
 
 -- operations with the same cores
-pub less-cores : (s : State) (k : Kept Task) → cores k ≡ cores s.operations → IsLess s (record s { operations = k })
+pub less-cores : (s : State) (k : OperationTable Task) → cores k ≡ cores s.operations → IsLess s (record s { operations = k })
 unfolding judged_instances judged_volumes loads share_of amounts_of_instance
 less-cores s k same = record {
   projects = refl;
@@ -39,7 +39,7 @@ less-cores s k same = record {
   loads_of : List Load → List Load
   loads_of xs = map (instance_load s) s.instances ++ map volume_load s.volumes ++ xs
 
-pub within-cores : (s : State) (k : Kept Task) → cores k ≡ cores s.operations → AreWithin s → AreWithin (record s { operations = k })
+pub within-cores : (s : State) (k : OperationTable Task) → cores k ≡ cores s.operations → AreWithin s → AreWithin (record s { operations = k })
 within-cores s k same h = within-less s (record s { operations = k }) (less-cores s k same) h
 
 -- an end that leaves the rows
@@ -67,7 +67,7 @@ within-done s o t h live done rest = within-less s t (record {
 }) h.limits
 
 -- what statuses and notices leave
-pub less-powers : (s : State) (powers : List Standing) → IsLess s (record s { powers = powers })
+pub less-powers : (s : State) (powers : List InstancePower) → IsLess s (record s { powers = powers })
 unfolding judged_instances judged_volumes loads share_of amounts_of_instance
 less-powers s powers = record {
   projects = refl;
@@ -89,7 +89,7 @@ less-notices s notices next = record {
   usage = λ project part. let e : used (record s { notices = notices; next_notice = next }) project part ≡ used s project part = refl in omega (arith, e);
 }
 
-pub within-powers : (s : State) (powers : List Standing) → AreWithin s → AreWithin (record s { powers = powers })
+pub within-powers : (s : State) (powers : List InstancePower) → AreWithin s → AreWithin (record s { powers = powers })
 within-powers s powers h = within-less s (record s { powers = powers }) (less-powers s powers) h
 
 pub within-notices : (s : State) (notices : List Notice) (next : ℕ) → AreWithin s → AreWithin (record s { notices = notices; next_notice = next })

@@ -19,8 +19,8 @@ use Rattle.row_machine.specs.machine.Rows.{snapshot_named}
 use Rattle.row_machine.specs.machine.Asked.{snapshots_of}
 use Rattle.row_machine.specs.machine.Changes.{applied}
 use Rattle.row_machine.specs.machine.Claims.{claimed_instance}
-use Rattle.row_machine.specs.shown.Links.{target_of}
-use Rattle.row_machine.specs.machine.Work.{success_changes, with_power_after, removes_instance}
+use Rattle.row_machine.specs.shown.Urls.{target_of}
+use Rattle.row_machine.specs.machine.Operations.{success_changes, with_power_after, removes_instance}
 use Rattle.row_machine.specs.facts.Whole.{IsByDeed}
 use Rattle.row_machine.specs.machine.Deeds.{claim_kind}
 use Rattle.machine_laws.proofs.SharesCores.{map-map}

@@ -22,7 +22,7 @@ use Rattle.host_model.specs.declared.report.Report.TheVariants as report
 use Rattle.operations.specs.declared.operation.Operation.{Operation}
 use Rattle.operations.specs.declared.operation.OpFault.TheVariants as fault
 use Rattle.operations.specs.declared.status.Status.TheVariants as status
-use Rattle.operations.specs.Kept.{has_number}
+use Rattle.operations.specs.OperationTable.{has_number}
 use Rattle.records.specs.declared.commands.Target.{Target}
 use Rattle.records.specs.declared.notices.Notice.{Notice}
 use Rattle.records.specs.declared.rows.Instance.{Instance}
@@ -35,12 +35,12 @@ use Rattle.row_machine.specs.machine.State.{State}
 use Rattle.row_machine.specs.machine.Rows.{is_instance, instance_named, instance_names, with_instance, texts_before}
 use Rattle.row_machine.specs.machine.Changes.{applied}
 use Rattle.row_machine.specs.machine.Claims.{claimed_instance, replaced_instance, amounts_of_instance, share_of}
-use Rattle.row_machine.specs.shown.Links.{target_of}
+use Rattle.row_machine.specs.shown.Urls.{target_of}
 use Rattle.row_machine.specs.machine.Usage.{loads, used, usage_of, amount_for}
 use Rattle.row_machine.specs.shown.Notices.{telling, success_notices, operation_notice}
 use Rattle.row_machine.specs.machine.Accept.{After}
 use Rattle.row_machine.specs.machine.Step.{well, step, success, committed, done, reported, call_done}
-use Rattle.row_machine.specs.machine.Work.{converted, ended, succeeded, success_changes, with_power_after, power_after}
+use Rattle.row_machine.specs.machine.Operations.{converted, ended, succeeded, success_changes, with_power_after, power_after}
 use Rattle.row_machine.specs.facts.Whole.{IsByDeed, IsPlaced}
 use Rattle.row_machine.specs.machine.Deeds.{keeps_name, replaces_target, claim_kind}
 use Rattle.machine_laws.specs.Lowered.{IsLastDone, LowersUsage, UpdatesLower, SuccessesRaiseNothing}
@@ -94,7 +94,7 @@ module _ (s : State) (o : Operation Task) (moment : ℕ) (h : IsLastDone s o) wh
   deeds = h.whole.operations.deeds.at o o_live
 
   placed : IsPlaced s o.work
-  placed = h.whole.links.operations.at o o_live
+  placed = h.whole.references.operations.at o o_live
 
   abbrev powered : State
   powered = with_power_after o.work (power_after s o.work) s

@@ -4,7 +4,7 @@ use Rattle.plain_lists.specs.Members.{Each}
 use Rattle.plain_lists.proofs.Elements.{Each-none, Each-cons, Each-head, Each-tail}
 use Rattle.size_values.specs.declared.kinds.ObjectKind.{ObjectKind}
 use Rattle.size_values.specs.declared.kinds.ObjectKind.TheVariants as kind
-use Rattle.operations.specs.Kept.{Kept}
+use Rattle.operations.specs.OperationTable.{OperationTable}
 use Rattle.records.specs.declared.rows.Row.{Row}
 use Rattle.records.specs.declared.rows.Row.TheVariants as row
 use Rattle.row_codec.specs.Rows.{HasGoodKey, HasMoments}
@@ -20,7 +20,7 @@ use Rattle.machine_laws.proofs.NamesDrop.{AreNamed-without}
 
 -- ---- changes of rows leave operations
 
-pub with-aside : (r : Row) (s : State) (k : Kept Task) → with_row r (record s { operations = k }) ≡ record (with_row r s) { operations = k }
+pub with-aside : (r : Row) (s : State) (k : OperationTable Task) → with_row r (record s { operations = k }) ≡ record (with_row r s) { operations = k }
 with-aside (row.Project r) s k = refl
 with-aside (row.Profile r) s k = refl
 with-aside (row.Network r) s k = refl
@@ -29,7 +29,7 @@ with-aside (row.Volume r) s k = refl
 with-aside (row.Instance r) s k = refl
 with-aside (row.Snapshot r) s k = refl
 
-pub without-aside : (of : ObjectKind) (key : List ℕ) (s : State) (k : Kept Task)
+pub without-aside : (of : ObjectKind) (key : List ℕ) (s : State) (k : OperationTable Task)
     → without_row of key (record s { operations = k }) ≡ record (without_row of key s) { operations = k }
 without-aside kind.Project key s k = refl
 without-aside kind.Profile key s k = refl
@@ -40,11 +40,11 @@ without-aside kind.Instance key s k = refl
 without-aside kind.Snapshot key s k = refl
 without-aside kind.Operation key s k = refl
 
-pub changed-aside : (c : RowChange) (s : State) (k : Kept Task) → changed (record s { operations = k }) c ≡ record (changed s c) { operations = k }
+pub changed-aside : (c : RowChange) (s : State) (k : OperationTable Task) → changed (record s { operations = k }) c ≡ record (changed s c) { operations = k }
 changed-aside (change.Put r) s k = with-aside r s k
 changed-aside (change.Remove of key) s k = without-aside of key s k
 
-pub applied-aside : (cs : List RowChange) (s : State) (k : Kept Task) → applied (record s { operations = k }) cs ≡ record (applied s cs) { operations = k }
+pub applied-aside : (cs : List RowChange) (s : State) (k : OperationTable Task) → applied (record s { operations = k }) cs ≡ record (applied s cs) { operations = k }
 applied-aside [] s k = refl
 applied-aside (c ∷ cs) s k = ap (λ t. applied t cs) (changed-aside c s k) ∙ applied-aside cs (changed s c) k
 
@@ -71,7 +71,7 @@ removals-none (r ∷ rows) = removals-none rows
 -- ---- names after each change
 
 -- a row that may be put: its names and moments are good, and no live operation claims its name
-pub record IsReady (k : Kept Task) (r : Row) : Type 0 where
+pub record IsReady (k : OperationTable Task) (r : Row) : Type 0 where
   pub good : HasGoodKey r
   pub timely : HasMoments r
   pub free : IsUnclaimed k r

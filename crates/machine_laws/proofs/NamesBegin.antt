@@ -12,7 +12,7 @@ use Rattle.config_lists.proofs.Keys.{same}
 use Rattle.size_values.specs.Moments.{moment_limit}
 use Rattle.size_values.specs.declared.kinds.ObjectKind.TheVariants as kind
 use Rattle.operations.specs.declared.operation.Operation.{Operation}
-use Rattle.operations.specs.Kept.{Kept}
+use Rattle.operations.specs.OperationTable.{OperationTable}
 use Rattle.records.specs.declared.rows.Instance.{Instance}
 use Rattle.records.specs.declared.rows.Row.{Row}
 use Rattle.records.specs.declared.rows.Row.TheVariants as row
@@ -22,7 +22,7 @@ use Rattle.row_machine.specs.machine.State.{State}
 use Rattle.row_machine.specs.machine.Rows.{project_named, pool_named, is_project, is_pool, is_instance, volume_names, instance_names, snapshot_names}
 use Rattle.row_machine.specs.machine.Claims.{of_live, claimed_volume, claimed_snapshot}
 use Rattle.row_machine.specs.opening.Records.{rows_of}
-use Rattle.row_machine.specs.machine.Work.{claiming, entered}
+use Rattle.row_machine.specs.machine.Operations.{claiming, entered}
 use Rattle.row_machine.specs.facts.Whole.{AreNamed, claims_of, new_instance}
 use Rattle.machine_laws.proofs.Cases.{IsIdle, Begins}
 use Rattle.machine_laws.proofs.Cases.Begins.{creates, copies_instance, copies_snapshot, copies_volume, updates, restores, renames, deletes, acts, snaps, unsnaps}
@@ -57,7 +57,7 @@ Distinct-more {X} names read rows o {live} {more} put new d = at (read o.work) r
   at None is new = subst (λ cs. Distinct names (rows ++ cs)) (sym (read-same (λ (x : Operation Task). read x.work) put is)) d
   at (Some x) is new = Distinct-puts names (Puts-right rows (read-Puts (λ (y : Operation Task). read y.work) put is)) new d
 
-pub AreNamed-more : (s : State) (k : Kept Task) (o : Operation Task) → Puts o s.operations.live k.live → IsClaimable s o.work → AreNamed s → AreNamed (record s { operations = k })
+pub AreNamed-more : (s : State) (k : OperationTable Task) (o : Operation Task) → Puts o s.operations.live k.live → IsClaimable s o.work → AreNamed s → AreNamed (record s { operations = k })
 AreNamed-more s k o put new h = record {
   good = Each-more (rows_of s) o put new.good h.good;
   moments = Each-more (rows_of s) o put new.timely h.moments;

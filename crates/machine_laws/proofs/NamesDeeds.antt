@@ -13,8 +13,8 @@ use Rattle.size_values.specs.declared.kinds.Power.{Power}
 use Rattle.operations.specs.declared.operation.Operation.{Operation}
 use Rattle.operations.specs.declared.operation.OpFault.TheVariants as op_fault
 use Rattle.operations.specs.declared.status.Status.TheVariants as status
-use Rattle.operations.specs.Kept.{Kept, has_number, live_at}
-use Rattle.operations.specs.Kept as kept
+use Rattle.operations.specs.OperationTable.{OperationTable, has_number, live_at}
+use Rattle.operations.specs.OperationTable as kept
 use Rattle.records.specs.declared.rows.Instance.{Instance}
 use Rattle.records.specs.declared.rows.Snapshot.{Snapshot}
 use Rattle.records.specs.declared.rows.Row.{Row}
@@ -27,7 +27,7 @@ use Rattle.row_machine.specs.machine.Rows.{instance_named, snapshot_named, insta
 use Rattle.row_machine.specs.machine.Asked.{snapshots_of}
 use Rattle.row_machine.specs.machine.Changes.{applied, rows_put}
 use Rattle.row_machine.specs.machine.Claims.{of_live, claimed_instance, claimed_snapshot}
-use Rattle.row_machine.specs.machine.Work.{success_changes, removes_instance, renames_instance, power_after, with_power_after, ended, succeeded}
+use Rattle.row_machine.specs.machine.Operations.{success_changes, removes_instance, renames_instance, power_after, with_power_after, ended, succeeded}
 use Rattle.row_machine.specs.facts.Whole.{IsWhole, AreNamed, IsPlaced, claims_of, new_instance}
 use Rattle.row_machine.specs.machine.Deeds.{keeps_name}
 use Rattle.machine_laws.proofs.NamesRows.{EachRow, each-row}
@@ -42,7 +42,7 @@ abbrev pub gone_along : Instance → Snapshot → Row
 gone_along i r = row.Snapshot (record r { instance = i.name; project = i.project })
 
 -- each snapshot of the instance may be put under the new name
-along-ready : (s : State) (k : Kept Task) (task : Task) (i : Instance) → AreNamed s → Each (λ o. IsPlaced s o.work) s.operations.live → IsEnding s k task
+along-ready : (s : State) (k : OperationTable Task) (task : Task) (i : Instance) → AreNamed s → Each (λ o. IsPlaced s o.work) s.operations.live → IsEnding s k task
     → HasGoodKey (row.Instance i) → Each (λ z. instance_names z ≢ instance_names i) s.instances → (rs : List Snapshot) → Each (λ r. Mem r s.snapshots) rs
     → Each (IsReady k) (map (gone_along i) rs)
 along-ready s k task i h placed e good fresh rs there = record { at = λ x m. by x (Mem-from_map (gone_along i) x rs m) } where
@@ -64,7 +64,7 @@ along-ready s k task i h placed e good fresh rs there = record { at = λ x m. by
   by : (x : Row) → (r : Snapshot) × (Mem r rs × (x ≡ gone_along i r)) → IsReady k x
   by x found = subst (IsReady k) (sym found.1.1) (ready found.0 (there.at found.0 found.1.0))
 
-rename-ready : (s : State) (k : Kept Task) (task : Task) → AreNamed s → Each (λ o. IsPlaced s o.work) s.operations.live → IsEnding s k task → task.deed ≡ deed.Rename
+rename-ready : (s : State) (k : OperationTable Task) (task : Task) → AreNamed s → Each (λ o. IsPlaced s o.work) s.operations.live → IsEnding s k task → task.deed ≡ deed.Rename
     → Each (IsReady k) (rows_put (option_map_or (renames_instance s task) (claimed_instance task) []))
 rename-ready s k task h placed e renames = at task.claim refl where
   removed : List Row
@@ -91,12 +91,12 @@ rename-ready s k task h placed e renames = at task.claim refl where
   at (Some (row.Volume r)) is = Each-none
   at (Some (row.Snapshot r)) is = Each-none
 
-removes-ready : (s : State) (k : Kept Task) (project name : List ℕ) → Each (IsReady k) (rows_put (removes_instance s project name))
+removes-ready : (s : State) (k : OperationTable Task) (project name : List ℕ) → Each (IsReady k) (rows_put (removes_instance s project name))
 removes-ready s k project name =
     removals-none (map row.Snapshot (snapshots_of s project name) ++ map row.Instance (option_to_list (instance_named s.instances project name)))
 
 -- by deed: each row that a success puts may be put once the operation has ended
-deed-ready : (s : State) (k : Kept Task) (task : Task) (d : Deed) → AreNamed s → Each (λ o. IsPlaced s o.work) s.operations.live
+deed-ready : (s : State) (k : OperationTable Task) (task : Task) (d : Deed) → AreNamed s → Each (λ o. IsPlaced s o.work) s.operations.live
     → IsEnding s k (record task { deed = d }) → Each (IsReady k) (rows_put (success_changes s (record task { deed = d })))
 deed-ready s k task deed.Create h placed e = claim-ready s k (record task { deed = deed.Create }) e
     (λ i is. Each-right s.instances (new-free s k (record task { deed = deed.Create }) e refl i is))
@@ -124,14 +124,14 @@ deed-ready s k task deed.CopyVolume h placed e = claim-ready s k (record task { 
 -- ---- the whole success
 
 -- the operations after one has succeeded
-abbrev pub succeeding : ℕ → ℕ → Kept Task → Kept Task
+abbrev pub succeeding : ℕ → ℕ → OperationTable Task → OperationTable Task
 succeeding number moment k = kept.ends number status.Success op_fault.None moment k
 
 -- each row that a success puts may be put once its operation has ended
 pub success-ready : (s : State) (o : Operation Task) (moment : ℕ) → IsWhole s → live_at s.operations o.number ≡ Some o
     → Each (IsReady (succeeding o.number moment s.operations)) (rows_put (success_changes s o.work))
 success-ready s o moment h live =
-    deed-ready s (succeeding o.number moment s.operations) o.work o.work.deed h.names h.links.operations
+    deed-ready s (succeeding o.number moment s.operations) o.work o.work.deed h.names h.references.operations
     (is-ending s (succeeding o.number moment s.operations) o h
     (dropped-Puts (has_number o.number) o s.operations.live live)
     (find-some (has_number o.number) s.operations.live o live).0

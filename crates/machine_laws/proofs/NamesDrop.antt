@@ -10,8 +10,8 @@ use Rattle.records.specs.declared.rows.Instance.{Instance}
 use Rattle.records.specs.declared.rows.Row.{Row}
 use Rattle.records.specs.declared.rows.Row.TheVariants as row
 use Rattle.row_codec.specs.Spelling.{two_names}
-use Rattle.row_machine.specs.machine.State.{State, Standing}
-use Rattle.row_machine.specs.machine.Rows.{project_names, profile_names, network_names, pool_names, volume_names, instance_names, snapshot_names, standing_names}
+use Rattle.row_machine.specs.machine.State.{State, InstancePower}
+use Rattle.row_machine.specs.machine.Rows.{project_names, profile_names, network_names, pool_names, volume_names, instance_names, snapshot_names, power_names}
 use Rattle.row_machine.specs.machine.Changes.{has_key, without_row}
 use Rattle.row_machine.specs.machine.Claims.{of_live, claimed_volume, claimed_snapshot}
 use Rattle.row_machine.specs.opening.Records.{rows_of}
@@ -26,11 +26,11 @@ are_of_key key (a ∷ b ∷ []) = bytes_eq (two_names a b) key
 are_of_key key other = false
 
 -- the status goes with its instance
-standing-dropped : (key : List ℕ) (powers : List Standing) (instances : List Instance) → map standing_names powers ≡ map instance_names instances
-    → map standing_names (dropped (λ p. bytes_eq (two_names p.project p.name) key) powers)
+powers-dropped : (key : List ℕ) (powers : List InstancePower) (instances : List Instance) → map power_names powers ≡ map instance_names instances
+    → map power_names (dropped (λ p. bytes_eq (two_names p.project p.name) key) powers)
     ≡ map instance_names (dropped (λ r. has_key key (row.Instance r)) instances)
-standing-dropped key powers instances same =
-    map-dropped standing_names (are_of_key key) powers ∙ ap (dropped (are_of_key key)) same
+powers-dropped key powers instances same =
+    map-dropped power_names (are_of_key key) powers ∙ ap (dropped (are_of_key key)) same
     ∙ sym (map-dropped instance_names (are_of_key key) instances)
 
 less_claims : {P : Row → Type 0} (s : State) (of : ObjectKind) (key : List ℕ)
@@ -123,7 +123,7 @@ AreNamed-without s kind.Instance key h = record {
   volumes = h.volumes;
   instances = Rise-dropped instance_names _ s.instances h.instances;
   snapshots = h.snapshots;
-  powers = standing-dropped key s.powers s.instances h.powers;
+  powers = powers-dropped key s.powers s.instances h.powers;
   new_volumes = h.new_volumes;
   new_instances = Distinct-less instance_names _ s.instances (of_live new_instance s) h.new_instances;
   new_snapshots = h.new_snapshots;

@@ -9,16 +9,16 @@ use Rattle.operations.specs.declared.operation.OpFault.{OpFault}
 use Rattle.operations.specs.declared.operation.OpFault.TheVariants as op_fault
 use Rattle.operations.specs.declared.status.Status.{Status}
 use Rattle.operations.specs.declared.status.Status.TheVariants as status
-use Rattle.operations.specs.Kept.{Kept, has_number, live_at}
-use Rattle.operations.specs.Kept as kept
+use Rattle.operations.specs.OperationTable.{OperationTable, has_number, live_at}
+use Rattle.operations.specs.OperationTable as kept
 use Rattle.reservations.specs.declared.books.Books.{Books}
 use Rattle.records.specs.declared.notices.Notice.{Notice}
 use Rattle.records.specs.declared.notices.Untold.{Untold}
 use Rattle.row_machine.specs.machine.Task.{Task}
 use Rattle.reservations.specs.declared.books.Hold.{Hold}
-use Rattle.row_machine.specs.machine.State.{State, Standing}
-use Rattle.row_machine.specs.machine.Rows.{is_standing, standing_names}
-use Rattle.row_machine.specs.machine.Work.{with_power, with_power_after, ended, returned, converted, cancelled, failed}
+use Rattle.row_machine.specs.machine.State.{State, InstancePower}
+use Rattle.row_machine.specs.machine.Rows.{is_power_of, power_names}
+use Rattle.row_machine.specs.machine.Operations.{with_power, with_power_after, ended, returned, converted, cancelled, failed}
 use Rattle.row_machine.specs.machine.Deeds.{breaks_instance}
 use Rattle.row_machine.specs.shown.Notices.{kept_notices, push_notice, telling}
 use Rattle.row_machine.specs.facts.Whole.{AreNamed}
@@ -48,7 +48,7 @@ AreNamed-notice : (n : Untold) (s : State) → AreNamed s → AreNamed (push_not
 AreNamed-notice n s h = at (s.next_notice == 2 ^ 64 - 1) where
   pushed : State
   pushed = record s {
-    notices = ring_push kept_notices (record { number = s.next_notice; moment = n.moment; project = n.project; told = n.told }) s.notices;
+    notices = ring_push kept_notices (record { number = s.next_notice; moment = n.moment; project = n.project; body = n.body }) s.notices;
     next_notice = s.next_notice + 1;
   }
 
@@ -74,7 +74,7 @@ AreNamed-power s project name power h = record {
   volumes = h.volumes;
   instances = h.instances;
   snapshots = h.snapshots;
-  powers = map-changed standing_names (is_standing project name) (λ (p : Standing). record p { power = power }) s.powers (λ p is. refl) ∙ h.powers;
+  powers = map-changed power_names (is_power_of project name) (λ (p : InstancePower). record p { power = power }) s.powers (λ p is. refl) ∙ h.powers;
   new_volumes = h.new_volumes;
   new_instances = h.new_instances;
   new_snapshots = h.new_snapshots;

@@ -10,7 +10,7 @@ use Rattle.plain_lists.proofs.Readings.{read-same, read-Puts}
 use Rattle.plain_lists.proofs.EditLemmas.{find-changed}
 use Rattle.operations.specs.declared.operation.Operation.{Operation}
 use Rattle.operations.specs.declared.status.Status.{Status}
-use Rattle.operations.specs.Kept.{Kept, has_number, live_at}
+use Rattle.operations.specs.OperationTable.{OperationTable, has_number, live_at}
 use Rattle.records.specs.declared.rows.Row.{Row}
 use Rattle.row_codec.specs.Rows.{HasGoodKey, HasMoments}
 use Rattle.row_machine.specs.machine.Task.{Task}
@@ -18,7 +18,7 @@ use Rattle.row_machine.specs.machine.State.{State}
 use Rattle.row_machine.specs.machine.Rows.{volume_names, instance_names, snapshot_names}
 use Rattle.row_machine.specs.machine.Claims.{of_live, claimed_volume, claimed_snapshot}
 use Rattle.row_machine.specs.opening.Records.{rows_of}
-use Rattle.row_machine.specs.machine.Work.{with_task, moved}
+use Rattle.row_machine.specs.machine.Operations.{with_task, moved}
 use Rattle.row_machine.specs.machine.Step.{first_pending}
 use Rattle.row_machine.specs.facts.Whole.{IsWhole, AreNamed, claims_of, new_instance}
 use Rattle.machine_laws.proofs.Base.{read-found, first-live}
@@ -30,7 +30,7 @@ read_of read os = filter_map (λ o. read o.work) os
 -- ---- operations that claim the same
 
 -- names stay where live operations claim the same
-pub AreNamed-live : (s : State) (k : Kept Task)
+pub AreNamed-live : (s : State) (k : OperationTable Task)
     → read_of (λ task. task.claim) k.live ≡ claims_of s
     → read_of claimed_volume k.live ≡ of_live claimed_volume s
     → read_of new_instance k.live ≡ of_live new_instance s
@@ -106,7 +106,7 @@ Distinct-fewer {X} names read rows o {less} {live} put d = at (read o.work) refl
   at (Some x) is = (Distinct-unputs names (Puts-right rows (read-Puts (λ (y : Operation Task). read y.work) put is)) d).1
 
 -- names stay where a live operation is taken out
-pub AreNamed-fewer : (s : State) (k : Kept Task) (o : Operation Task) → Puts o k.live s.operations.live → AreNamed s → AreNamed (record s { operations = k })
+pub AreNamed-fewer : (s : State) (k : OperationTable Task) (o : Operation Task) → Puts o k.live s.operations.live → AreNamed s → AreNamed (record s { operations = k })
 AreNamed-fewer s k o put h = record {
   good = Each-fewer (rows_of s) o put h.good;
   moments = Each-fewer (rows_of s) o put h.moments;

@@ -6,15 +6,15 @@ use Rattle.plain_lists.specs.Members.{Each}
 use Rattle.plain_lists.specs.Edits.{changed_first, inserted}
 use Rattle.plain_lists.proofs.Elements.{Each-append, Each-left, Each-right}
 use Rattle.size_values.specs.declared.kinds.Power.TheVariants.{Stopped}
-use Rattle.operations.specs.Kept.{Kept}
+use Rattle.operations.specs.OperationTable.{OperationTable}
 use Rattle.records.specs.declared.rows.Instance.{Instance}
 use Rattle.records.specs.declared.rows.Row.{Row}
 use Rattle.records.specs.declared.rows.Row.TheVariants as row
 use Rattle.row_codec.specs.Rows.{HasGoodKey, HasMoments}
 use Rattle.row_machine.specs.machine.Task.{Task}
-use Rattle.row_machine.specs.machine.State.{State, Standing}
-use Rattle.row_machine.specs.machine.Rows.{texts_before, project_names, profile_names, network_names, pool_names, volume_names, instance_names, snapshot_names, standing_names, is_project, is_profile, is_network, is_pool, is_volume, is_instance, is_snapshot, is_standing, with_instance, with_standing}
-use Rattle.row_machine.specs.machine.Changes.{with_row, standing_with}
+use Rattle.row_machine.specs.machine.State.{State, InstancePower}
+use Rattle.row_machine.specs.machine.Rows.{texts_before, project_names, profile_names, network_names, pool_names, volume_names, instance_names, snapshot_names, power_names, is_project, is_profile, is_network, is_pool, is_volume, is_instance, is_snapshot, is_power_of, with_instance, with_instance_power}
+use Rattle.row_machine.specs.machine.Changes.{with_row, powers_with}
 use Rattle.row_machine.specs.machine.Claims.{of_live, claimed_volume, claimed_snapshot}
 use Rattle.row_machine.specs.opening.Records.{rows_of}
 use Rattle.row_machine.specs.facts.Whole.{AreNamed, claims_of, new_instance}
@@ -25,7 +25,7 @@ use Rattle.machine_laws.proofs.NamesRows.{rows-with}
 use Rattle.machine_laws.proofs.NamesLive.{read_of}
 
 -- no live operation claims the row's name as a new one
-abbrev pub IsUnclaimed : Kept Task → Row → Type 0
+abbrev pub IsUnclaimed : OperationTable Task → Row → Type 0
 IsUnclaimed k (row.Volume r) = Each (λ y. volume_names y ≢ volume_names r) (read_of claimed_volume k.live)
 IsUnclaimed k (row.Instance r) = Each (λ y. instance_names y ≢ instance_names r) (read_of new_instance k.live)
 IsUnclaimed k (row.Snapshot r) = Each (λ y. snapshot_names y ≢ snapshot_names r) (read_of claimed_snapshot k.live)
@@ -38,34 +38,34 @@ abbrev pub are_two : List ℕ → List ℕ → List (List ℕ) → Bool
 are_two project name (a ∷ b ∷ []) = bytes_eq a project && bytes_eq b name
 are_two project name other = false
 
-pub standing-put : (i : Instance) (powers : List Standing) (instances : List Instance) → map standing_names powers ≡ map instance_names instances
-    → map standing_names (standing_with i powers) ≡ map instance_names (with_instance i instances)
-standing-put i powers instances same = at (list_any (is_standing i.project i.name) powers) refl where
-  fresh : Standing
+pub powers-put : (i : Instance) (powers : List InstancePower) (instances : List Instance) → map power_names powers ≡ map instance_names instances
+    → map power_names (powers_with i powers) ≡ map instance_names (with_instance i instances)
+powers-put i powers instances same = at (list_any (is_power_of i.project i.name) powers) refl where
+  fresh : InstancePower
   fresh = record { project = i.project; name = i.name; power = Stopped }
 
   before : List (List ℕ) → Bool
   before names = texts_before (instance_names i) names
 
-  both : list_any (is_standing i.project i.name) powers ≡ list_any (is_instance i.project i.name) instances
+  both : list_any (is_power_of i.project i.name) powers ≡ list_any (is_instance i.project i.name) instances
   both =
-      sym (any-map standing_names (are_two i.project i.name) powers) ∙ ap (list_any (are_two i.project i.name)) same
+      sym (any-map power_names (are_two i.project i.name) powers) ∙ ap (list_any (are_two i.project i.name)) same
       ∙ any-map instance_names (are_two i.project i.name) instances
 
-  by_instance : (b : Bool) → list_any (is_standing i.project i.name) powers ≡ b
+  by_instance : (b : Bool) → list_any (is_power_of i.project i.name) powers ≡ b
       → with_instance i instances ≡ cond b (changed_first (is_instance i.project i.name) (λ _. i) instances) (inserted (λ y. before (instance_names y)) i instances)
   by_instance b is = ap (λ c. cond c (changed_first (is_instance i.project i.name) (λ _. i) instances) (inserted (λ y. before (instance_names y)) i instances)) (sym both ∙ is)
 
-  by_standing : list_any (is_standing i.project i.name) powers ≡ false → with_standing fresh powers ≡ inserted (λ y. before (standing_names y)) fresh powers
-  by_standing is = ap (λ c. cond c (changed_first (is_standing i.project i.name) (λ _. fresh) powers) (inserted (λ y. before (standing_names y)) fresh powers)) is
+  by_power : list_any (is_power_of i.project i.name) powers ≡ false → with_instance_power fresh powers ≡ inserted (λ y. before (power_names y)) fresh powers
+  by_power is = ap (λ c. cond c (changed_first (is_power_of i.project i.name) (λ _. fresh) powers) (inserted (λ y. before (power_names y)) fresh powers)) is
 
-  at : (b : Bool) → list_any (is_standing i.project i.name) powers ≡ b
-      → map standing_names (cond b powers (with_standing fresh powers)) ≡ map instance_names (with_instance i instances)
+  at : (b : Bool) → list_any (is_power_of i.project i.name) powers ≡ b
+      → map power_names (cond b powers (with_instance_power fresh powers)) ≡ map instance_names (with_instance i instances)
   at true is =
       same ∙ sym (map-put instance_names (is_instance i.project i.name) i instances (instance_is i.project i.name))
       ∙ ap (map instance_names) (sym (by_instance true is))
   at false is =
-      ap (map standing_names) (by_standing is) ∙ map-inserted standing_names before fresh powers
+      ap (map power_names) (by_power is) ∙ map-inserted power_names before fresh powers
       ∙ ap (inserted before (instance_names i)) same
       ∙ sym (map-inserted instance_names before i instances) ∙ ap (map instance_names) (sym (by_instance false is))
 
@@ -166,7 +166,7 @@ AreNamed-with s (row.Instance r) h good timely free = record {
   instances = Rise-replaced instance_names (is_instance r.project r.name) r s.instances
       (instance_is r.project r.name) (instance_differs r.project r.name) h.instances;
   snapshots = h.snapshots;
-  powers = standing-put r s.powers s.instances h.powers;
+  powers = powers-put r s.powers s.instances h.powers;
   new_volumes = h.new_volumes;
   new_instances = Distinct-put instance_names (is_instance r.project r.name) _ r s.instances (of_live new_instance s)
       (instance_is r.project r.name) (instance_differs r.project r.name) free h.new_instances;

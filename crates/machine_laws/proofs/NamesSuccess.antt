@@ -13,7 +13,7 @@ use Rattle.plain_lists.proofs.Searches.{find-some}
 use Rattle.size_values.specs.declared.kinds.Deed.TheVariants as deed
 use Rattle.size_values.specs.declared.kinds.ObjectKind.TheVariants as kind
 use Rattle.operations.specs.declared.operation.Operation.{Operation}
-use Rattle.operations.specs.Kept.{Kept}
+use Rattle.operations.specs.OperationTable.{OperationTable}
 use Rattle.records.specs.declared.rows.Instance.{Instance}
 use Rattle.records.specs.declared.rows.Snapshot.{Snapshot}
 use Rattle.records.specs.declared.rows.Row.{Row}
@@ -26,7 +26,7 @@ use Rattle.row_machine.specs.machine.State.{State}
 use Rattle.row_machine.specs.machine.Rows.{instance_named, is_instance, volume_names, instance_names, snapshot_names}
 use Rattle.row_machine.specs.machine.Changes.{rows_put}
 use Rattle.row_machine.specs.machine.Claims.{of_live, claimed_volume, claimed_instance, claimed_snapshot}
-use Rattle.row_machine.specs.shown.Links.{target_of}
+use Rattle.row_machine.specs.shown.Urls.{target_of}
 use Rattle.row_machine.specs.opening.Records.{rows_of}
 use Rattle.row_machine.specs.facts.Whole.{IsWhole, IsByDeed, IsPlaced, claims_of, new_instance, instance_there}
 use Rattle.row_machine.specs.machine.Deeds.{keeps_name}
@@ -88,7 +88,7 @@ no-snapshot s project name placed fresh = record { at = λ y m. by y (Mem-from_r
 -- ---- what is known of an operation that ends
 
 -- the others are those of k; what the operation claims is good, and none of the others claims it
-pub record IsEnding (s : State) (k : Kept Task) (task : Task) : Type 0 where
+pub record IsEnding (s : State) (k : OperationTable Task) (task : Task) : Type 0 where
   pub good : (r : Row) → task.claim ≡ Some r → HasGoodKey r
   pub timely : (r : Row) → task.claim ≡ Some r → HasMoments r
   pub volume : IfSome (claimed_volume task) (λ v. Each (λ y. volume_names y ≢ volume_names v) (read_of claimed_volume k.live))
@@ -110,7 +110,7 @@ if_read : {X : Type 0} {P : X → Type 0} (o : Option X) → ((x : X) → o ≡ 
 if_read None h = tt
 if_read (Some x) h = h x refl
 
-pub is-ending : (s : State) (k : Kept Task) (o : Operation Task) → IsWhole s → Puts o k.live s.operations.live → Mem o s.operations.live
+pub is-ending : (s : State) (k : OperationTable Task) (o : Operation Task) → IsWhole s → Puts o k.live s.operations.live → Mem o s.operations.live
     → Distinct instance_names (s.instances ++ read_of new_instance k.live) → IsEnding s k o.work
 is-ending s k o h put there others = record {
   good = λ r e. (Each-right (rows_of s) h.names.good).at r (claimed r e);
@@ -121,14 +121,14 @@ is-ending s k o h put there others = record {
   others = others;
   snapshots = fewer-read claimed_snapshot o put;
   by_deed = h.operations.deeds.at o there;
-  placed = h.links.operations.at o there;
+  placed = h.references.operations.at o there;
 } where
   claimed : (r : Row) → o.work.claim ≡ Some r → Mem r (claims_of s)
   claimed r e = Mem-read (λ (x : Operation Task). x.work.claim) o r s.operations.live there e
 
 -- ---- a claim becomes a row
 
-claim-free : (s : State) (k : Kept Task) (task : Task) → IsEnding s k task
+claim-free : (s : State) (k : OperationTable Task) (task : Task) → IsEnding s k task
     → ((i : Instance) → task.claim ≡ Some (row.Instance i) → Each (λ y. instance_names y ≢ instance_names i) (read_of new_instance k.live))
     → (r : Row) → task.claim ≡ Some r → IsUnclaimed k r
 claim-free s k task e instance (row.Volume v) is =
@@ -145,7 +145,7 @@ pub option-each : {X : Type 0} (P : X → Type 0) (o : Option X) → ((x : X) �
 option-each P None h = Each-none
 option-each P (Some x) h = Each-cons P (h x refl) Each-none
 
-pub claim-ready : (s : State) (k : Kept Task) (task : Task) → IsEnding s k task
+pub claim-ready : (s : State) (k : OperationTable Task) (task : Task) → IsEnding s k task
     → ((i : Instance) → task.claim ≡ Some (row.Instance i) → Each (λ y. instance_names y ≢ instance_names i) (read_of new_instance k.live))
     → Each (IsReady k) (rows_put (map change.Put (option_to_list task.claim)))
 claim-ready s k task e instance =
@@ -153,7 +153,7 @@ claim-ready s k task e instance =
     (option-each (IsReady k) task.claim (λ r is. record { good = e.good r is; timely = e.timely r is; free = claim-free s k task e instance r is }))
 
 -- a new instance is no row's and no other's
-pub new-free : (s : State) (k : Kept Task) (task : Task) → IsEnding s k task → keeps_name task.deed ≡ false
+pub new-free : (s : State) (k : OperationTable Task) (task : Task) → IsEnding s k task → keeps_name task.deed ≡ false
     → (i : Instance) → task.claim ≡ Some (row.Instance i) → Each (λ y. instance_names y ≢ instance_names i) (s.instances ++ read_of new_instance k.live)
 new-free s k task e keeps i is =
     subst (λ o. IfSome o (λ x. Each (λ y. instance_names y ≢ instance_names x) (s.instances ++ read_of new_instance k.live))) (new_is keeps is) e.instance
@@ -162,7 +162,7 @@ new-free s k task e keeps i is =
     new_is keeps is = ap (λ b. cond b None (claimed_instance task)) keeps ∙ ap (λ c. claimed_instance (record task { claim = c })) is
 
 -- one that takes its target's place is under a row's name, which none of the others claims
-pub same-free : (s : State) (k : Kept Task) (task : Task) → IsEnding s k task → task.deed ≢ deed.Rename → task.target.kind ≡ kind.Instance
+pub same-free : (s : State) (k : OperationTable Task) (task : Task) → IsEnding s k task → task.deed ≢ deed.Rename → task.target.kind ≡ kind.Instance
     → instance_there s task.project task.target
     → (i : Instance) → task.claim ≡ Some (row.Instance i) → Each (λ y. instance_names y ≢ instance_names i) (read_of new_instance k.live)
 same-free s k task e other is_instance there i is =

@@ -28,10 +28,10 @@ use Rattle.row_machine.specs.machine.Claims.{judged_instances}
 use Rattle.row_machine.specs.opening.Records.{rows_of}
 use Rattle.row_machine.specs.machine.SettingRules.{profile_missing, devices_miss}
 use Rattle.row_machine.specs.machine.PolicyRules.{forbids_profile, forbids_instance, project_forbids, policy_broken}
-use Rattle.row_machine.specs.machine.LimitRules.{instance_uncounted, volume_uncounts, project_uncounted, counts_broken}
+use Rattle.row_machine.specs.machine.LimitRules.{instance_without_amount, volume_lacks_amount, project_without_amount, counts_broken}
 use Rattle.row_machine.specs.machine.TableRules.{count_of}
 use Rattle.row_machine.specs.opening.Opening.{profiles_malformed, defaults_missing, named_row_missing, has_all_features}
-use Rattle.row_machine.specs.facts.Whole.{IsWhole, AreNamed, IsLinked, ReferencesExist, HasDefaults, AreSettled, AreOperations, AreBalanced, AreFew}
+use Rattle.row_machine.specs.facts.Whole.{IsWhole, AreNamed, HasReferences, ReferencesExist, HasDefaults, AreSettled, AreOperations, AreBalanced, AreFew}
 use Rattle.machine_laws.proofs.NamesRise.{Rise-Distinct}
 use Rattle.machine_laws.proofs.NamesRows.{EachRow, each-row}
 use Rattle.machine_laws.proofs.NamesSuccess.{some_there}
@@ -75,19 +75,19 @@ module _ (a : State) (rows : List Row) (h : IsOpened (rows_alone a) rows) where
   with_none : {P : Row → Type 0} → Each P rows → Each P (rows_of s ++ [])
   with_none {P} e = Each-append (record { at = λ r m. e.at r (h.only r m) }) Each-none
 
-  links : ReferencesExist s
+  references : ReferencesExist s
   unfolding judged_instances
-  links = record {
+  references = record {
     homes = record { at = λ r m. h.accepted.homes.at r (h.only r m) };
     volumes = Each-map (λ v none. not_none _ (told_if _ _ none)) (by_kind h.accepted.parents).volumes;
     snapshots = Each-map (λ r none. not_none _ (told_if _ _ none)) (by_kind h.accepted.parents).snapshots;
     snapshot_profiles = Each-append (Each-map (λ r none. not_false (are_profiles r.profiles) (told_if _ _ none)) (by_kind h.accepted.profiles).snapshots) Each-none;
-    profiles = Each-map (λ r none. not_mapped _ _ none) (by_kind h.accepted.links).profiles;
-    instances = Each-append (record { at = λ i m. linked i ((by_kind h.accepted.profiles).instances.at i m) ((by_kind h.accepted.links).instances.at i m) }) Each-none;
+    profiles = Each-map (λ r none. not_mapped _ _ none) (by_kind h.accepted.references).profiles;
+    instances = Each-append (record { at = λ i m. refers i ((by_kind h.accepted.profiles).instances.at i m) ((by_kind h.accepted.references).instances.at i m) }) Each-none;
     operations = Each-none;
   } where
-    linked : (i : Instance) → profiles_malformed s (row.Instance i) ≡ None → named_row_missing s (row.Instance i) ≡ None → IsLinked s i
-    linked i few none =
+    refers : (i : Instance) → profiles_malformed s (row.Instance i) ≡ None → named_row_missing s (row.Instance i) ≡ None → HasReferences s i
+    refers i few none =
         let both = none_both (profile_missing s i) _ (not_mapped (λ (r : Refusal). r.rule) _ none) in
         let devices = none_both (devices_miss s i.project (expanded_of s.projects s.profiles i).devices) None both.1 in
         record { few = not_false (are_profiles i.profiles) (told_if _ _ few); profiles = both.0; devices = devices.0 }
@@ -170,20 +170,20 @@ module _ (a : State) (rows : List Row) (h : IsOpened (rows_alone a) rows) where
 
   counted : counts_broken s ≡ None
   unfolding counts_broken
-  counted = none-first_of (project_uncounted s) s.projects (record { at = λ p m. all p m }) where
-    instances : (p : Project) → Mem p s.projects → first_of (instance_uncounted s p) (filter (λ i. bytes_eq i.project p.name) s.instances) ≡ None
-    instances p m = none-first_of (instance_uncounted s p) (filter (λ i. bytes_eq i.project p.name) s.instances) (record {
+  counted = none-first_of (project_without_amount s) s.projects (record { at = λ p m. all p m }) where
+    instances : (p : Project) → Mem p s.projects → first_of (instance_without_amount s p) (filter (λ i. bytes_eq i.project p.name) s.instances) ≡ None
+    instances p m = none-first_of (instance_without_amount s p) (filter (λ i. bytes_eq i.project p.name) s.instances) (record {
       at = λ i k. let there = picked (λ (x : Instance). bytes_eq x.project p.name) i s.instances k in
-          ruled (λ (x : Refusal). x.rule) (λ q. instance_uncounted s q i) p m i.project there.1 ((by_kind h.accepted.counts).instances.at i there.0);
+          ruled (λ (x : Refusal). x.rule) (λ q. instance_without_amount s q i) p m i.project there.1 ((by_kind h.accepted.counts).instances.at i there.0);
     })
 
-    volumes : (p : Project) → Mem p s.projects → first_of (volume_uncounts p) (filter (λ v. bytes_eq v.project p.name) s.volumes) ≡ None
-    volumes p m = none-first_of (volume_uncounts p) (filter (λ v. bytes_eq v.project p.name) s.volumes) (record {
+    volumes : (p : Project) → Mem p s.projects → first_of (volume_lacks_amount p) (filter (λ v. bytes_eq v.project p.name) s.volumes) ≡ None
+    volumes p m = none-first_of (volume_lacks_amount p) (filter (λ v. bytes_eq v.project p.name) s.volumes) (record {
       at = λ v k. let there = picked (λ (x : Volume). bytes_eq x.project p.name) v s.volumes k in
-          ruled (λ (x : Refusal). x.rule) (λ q. volume_uncounts q v) p m v.project there.1 ((by_kind h.accepted.counts).volumes.at v there.0);
+          ruled (λ (x : Refusal). x.rule) (λ q. volume_lacks_amount q v) p m v.project there.1 ((by_kind h.accepted.counts).volumes.at v there.0);
     })
 
-    all : (p : Project) → Mem p s.projects → project_uncounted s p ≡ None
+    all : (p : Project) → Mem p s.projects → project_without_amount s p ≡ None
     all p m = none-first_of (λ (o : Option Refusal). o) _ (Each-cons _ (instances p m) (Each-cons _ (volumes p m) (Each-cons _ refl Each-none)))
 
   balanced : AreBalanced s
@@ -208,7 +208,7 @@ module _ (a : State) (rows : List Row) (h : IsOpened (rows_alone a) rows) where
   pub opened-whole : IsWhole s
   opened-whole = record {
     names = h.named;
-    links = links;
+    references = references;
     defaults = defaults;
     settings = settings;
     operations = operations;

@@ -4,7 +4,7 @@ use Rattle.plain_lists.specs.Members.{Mem, Each}
 use Rattle.plain_lists.proofs.Elements.{Each-none, Each-map}
 use Rattle.size_values.specs.declared.kinds.ObjectKind.{ObjectKind}
 use Rattle.size_values.specs.declared.kinds.ObjectKind.TheVariants as kind
-use Rattle.operations.specs.Kept.{no_operations}
+use Rattle.operations.specs.OperationTable.{no_operations}
 use Rattle.reservations.specs.Holdings.{no_books}
 use Rattle.records.specs.declared.rows.Row.{Row}
 use Rattle.records.specs.declared.rows.Row.TheVariants as row

@@ -21,7 +21,7 @@ use Rattle.row_machine.specs.machine.Rows.{default_name, project_named}
 use Rattle.row_machine.specs.machine.LimitRules.{part_exceeds, networks_exceed, limits_broken}
 use Rattle.row_machine.specs.machine.TableRules.{row_kinds, too_large, size_of, largest_row}
 use Rattle.row_machine.specs.machine.Kinds.{cap_of}
-use Rattle.row_machine.specs.opening.Opening.{Opening, opened, broken, broken_at, home_missing, parent_row_missing, profiles_malformed, defaults_missing, settings_invalid, devices_invalid, root_disk_missing, named_row_missing, forbidden, uncountable, row_rules, row_breaks, default_missing, limit_breaks, past_cap, size_breaks, rows_break}
+use Rattle.row_machine.specs.opening.Opening.{Opening, opened, broken, broken_at, home_missing, parent_row_missing, profiles_malformed, defaults_missing, settings_invalid, devices_invalid, root_disk_missing, named_row_missing, forbidden, row_lacks_amount, row_rules, row_breaks, default_missing, limit_breaks, past_cap, size_breaks, rows_break}
 use Rattle.machine_laws.proofs.SizesTables.{IsSmall}
 use Rattle.machine_laws.proofs.OpeningRows.{of_kind}
 
@@ -35,9 +35,9 @@ pub record AreAccepted (s : State) (rows : List Row) : Type 0 where
   pub settings : Each (λ r. settings_invalid s r ≡ None) rows
   pub devices : Each (λ r. devices_invalid s r ≡ None) rows
   pub roots : Each (λ r. root_disk_missing s r ≡ None) rows
-  pub links : Each (λ r. named_row_missing s r ≡ None) rows
+  pub references : Each (λ r. named_row_missing s r ≡ None) rows
   pub policy : (number : ℕ) → Mem number (1 ∷ 2 ∷ 3 ∷ 4 ∷ 5 ∷ 6 ∷ 7 ∷ []) → Each (λ r. forbidden number s r ≡ None) rows
-  pub counts : Each (λ r. uncountable s r ≡ None) rows
+  pub counts : Each (λ r. row_lacks_amount s r ≡ None) rows
   pub limits : limits_broken s s ≡ None
   pub tables : (k : ObjectKind) → Mem k row_kinds → length (of_kind k rows) ≤ cap_of k
   pub small : Each IsSmall rows
@@ -107,7 +107,7 @@ rows-accepted s rows h =
     let f5 = none_both (row_breaks s rows (forbidden 5)) _ f4.1 in
     let f6 = none_both (row_breaks s rows (forbidden 6)) _ f5.1 in
     let f7 = none_both (row_breaks s rows (forbidden 7)) _ f6.1 in
-    let last = none_both (row_breaks s rows uncountable) None f7.1 in
+    let last = none_both (row_breaks s rows row_lacks_amount) None f7.1 in
     let policy : Each (λ n. row_breaks s rows (forbidden n) ≡ None) (1 ∷ 2 ∷ 3 ∷ 4 ∷ 5 ∷ 6 ∷ 7 ∷ []) =
     Each-cons _ f1.0 (Each-cons _ f2.0 (Each-cons _ f3.0 (Each-cons _ f4.0 (Each-cons _ f5.0 (Each-cons _ f6.0 (Each-cons _ f7.0 Each-none)))))) in
     record {
@@ -119,9 +119,9 @@ rows-accepted s rows h =
       settings = rule-none s rows settings_invalid r5.0;
       devices = rule-none s rows devices_invalid r6.0;
       roots = rule-none s rows root_disk_missing r7.0;
-      links = rule-none s rows named_row_missing r8.0;
+      references = rule-none s rows named_row_missing r8.0;
       policy = λ number m. rule-none s rows (forbidden number) (policy.at number m);
-      counts = rule-none s rows uncountable last.0;
+      counts = rule-none s rows row_lacks_amount last.0;
       limits = limits-none s rows c.0;
       tables = λ k m. cap-none rows k ((first_of-none (past_cap rows) row_kinds d.0).at k m);
       small = Each-map (λ r none. ltb-false largest_row (size_of r) (told_if _ _ (not_mapped _ (too_large r) none)))

@@ -21,7 +21,7 @@ use Rattle.row_machine.specs.machine.Task.{Task}
 use Rattle.row_machine.specs.machine.State.{State}
 use Rattle.row_machine.specs.machine.Rows.{instance_named, snapshot_named}
 use Rattle.row_machine.specs.machine.Claims.{project_of_row}
-use Rattle.row_machine.specs.shown.Links.{target_of}
+use Rattle.row_machine.specs.shown.Urls.{target_of}
 use Rattle.row_machine.specs.machine.Holders.{busy_with, keeps_busy, is_about}
 use Rattle.row_machine.specs.machine.NameRules.{claims_object, same_target, is_there}
 use Rattle.row_machine.specs.machine.Plans.{instance_target}
@@ -46,7 +46,7 @@ about-there s project name h kind.Snapshot pool instance own about there =
     let found = there-is (snapshot_named s.snapshots project instance own) there in
     let r : Snapshot = found.0 in
     let named = snapshot-found s.snapshots project instance own r found.1 in
-    let its = h.links.snapshots.at r (find-some _ s.snapshots r found.1).0 in
+    let its = h.references.snapshots.at r (find-some _ s.snapshots r found.1).0 in
     subst (λ n. is_some (instance_named s.instances project n) ≡ true) (named.1.0 ∙ same instance name about)
     (subst (λ p. is_some (instance_named s.instances p r.instance) ≡ true) named.0 its)
 about-there s project name h kind.Project pool instance own about there = false-true about
@@ -131,7 +131,7 @@ new-apart s project name h new o m e = elim (or_either (is_about name o.work.tar
   home = same o.work.project project tests.0
 
   placed : IsPlaced s o.work
-  placed = h.links.operations.at o m
+  placed = h.references.operations.at o m
 
   by_deed : IsByDeed o.work
   by_deed = h.operations.deeds.at o m

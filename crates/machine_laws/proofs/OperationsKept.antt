@@ -22,8 +22,8 @@ use Rattle.operations.specs.declared.status.Status.{Status}
 use Rattle.operations.specs.declared.status.Status.TheVariants as status
 use Rattle.operations.specs.declared.status.Status.TheVariants.{Running, Cancelling}
 use Rattle.operations.specs.declared.faults.EnterFault.TheVariants.{Full, Spent}
-use Rattle.operations.specs.Kept.{Kept, has_number, live_at, enter_fault, ends}
-use Rattle.operations.specs.Kept as kept
+use Rattle.operations.specs.OperationTable.{OperationTable, has_number, live_at, enter_fault, ends}
+use Rattle.operations.specs.OperationTable as kept
 use Rattle.operations.specs.Facts.{AreKept}
 use Rattle.operations.proofs.KeptLemmas.{AreKept-entered, AreKept-moved, AreKept-with_work, AreKept-ends}
 use Rattle.records.specs.declared.commands.Command.{Command}
@@ -37,7 +37,7 @@ use Rattle.row_machine.specs.machine.TableRules.{entry_broken, enter_refusal}
 use Rattle.row_machine.specs.machine.Plans.{changes, starts}
 use Rattle.row_machine.specs.shown.Notices.{telling}
 use Rattle.row_machine.specs.machine.Step.{first_pending}
-use Rattle.row_machine.specs.machine.Work.{entered, with_task, moved, handing_out, one_more_done, undone, cancelled, failed, succeeded, success_changes, power_after, with_power_after, after_failure}
+use Rattle.row_machine.specs.machine.Operations.{entered, with_task, moved, handing_out, one_more_done, undone, cancelled, failed, succeeded, success_changes, power_after, with_power_after, after_failure}
 use Rattle.row_machine.specs.facts.Whole.{IsWhole, AreOperations, IsByDeed}
 use Rattle.machine_laws.proofs.Cases.{IsAccepted, IsLiveAs}
 use Rattle.machine_laws.proofs.Judged.{entry_judged}
@@ -54,7 +54,7 @@ abbrev pub busy_in : List ℕ → List ℕ → List (Operation Task) → ℕ
 busy_in project instance os = length (filter (λ (o : Operation Task). keeps_busy project instance o.work) os)
 
 -- the fact reads nothing but the operations
-pub record AreRight (k : Kept Task) : Type 0 where
+pub record AreRight (k : OperationTable Task) : Type 0 where
   pub kept : AreKept k
   pub busy : (project instance : List ℕ) → busy_in project instance k.live ≤ 1
   pub deeds : Each (λ (o : Operation Task). IsByDeed o.work) k.live
@@ -120,7 +120,7 @@ below m n h e = elim (eqb_tells m n) [ inl same ↦ false-true (sym e ∙ same.0
   by false is apart = absurd (apart (let e : m ≡ n = omega (arith, ltb-false m n is, h) in e))
 
 -- there is room, and a number
-may-enter : (k : Kept Task) → option_map enter_refusal (enter_fault k) ≡ None → AreKept k → (length k.live < most_live) × (k.next < number_limit)
+may-enter : (k : OperationTable Task) → option_map enter_refusal (enter_fault k) ≡ None → AreKept k → (length k.live < most_live) × (k.next < number_limit)
 may-enter k e h = at (length k.live == most_live) (k.next == number_limit) refl refl e where
   at : (a b : Bool) → (length k.live == most_live) ≡ a → (k.next == number_limit) ≡ b
       → option_map enter_refusal (cond a (Some Full) (cond b (Some Spent) None)) ≡ None → (length k.live < most_live) × (k.next < number_limit)
@@ -153,7 +153,7 @@ there : {W : Type 0} {o : Option W} {x : W} → o ≡ Some x → IsSome o
 there e = subst IsSome (sym e) refl
 
 -- one live operation changed: its number stays
-changed-right : (k : Kept Task) (n : ℕ) (f : Operation Task → Operation Task) (o : Operation Task) → live_at k n ≡ Some o
+changed-right : (k : OperationTable Task) (n : ℕ) (f : Operation Task → Operation Task) (o : Operation Task) → live_at k n ≡ Some o
     → SpeaksAs o.work (f o).work → AreKept (record k { live = changed_first (has_number n) f k.live }) → AreRight k
     → AreRight (record k { live = changed_first (has_number n) f k.live })
 changed-right k n f o e same keeps h = record {
@@ -165,7 +165,7 @@ changed-right k n f o e same keeps h = record {
 }
 
 -- an operation out
-ended-right : (k : Kept Task) (n : ℕ) (now : Status) (why : OpFault) (moment : ℕ) → AreKept (ends n now why moment k) → AreRight k → AreRight (ends n now why moment k)
+ended-right : (k : OperationTable Task) (n : ℕ) (now : Status) (why : OpFault) (moment : ℕ) → AreKept (ends n now why moment k) → AreRight k → AreRight (ends n now why moment k)
 ended-right k n now why moment keeps h = record {
   kept = keeps;
   busy = λ project instance. let few = count-dropped (λ (o : Operation Task). keeps_busy project instance o.work) (has_number n) k.live in
@@ -189,7 +189,7 @@ operations-taken s o moment {call} {rest} early h first calls = from-right _ (ne
   running : Operation Task
   running = record o { status = Running; updated = moment }
 
-  later : Kept Task
+  later : OperationTable Task
   later = kept.moved o.number Running moment s.operations
 
   moved_right : AreRight later

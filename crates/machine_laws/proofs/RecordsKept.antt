@@ -5,7 +5,7 @@ use Rattle.size_values.specs.declared.kinds.Power.{Power}
 use Rattle.operations.specs.declared.operation.Operation.{Operation}
 use Rattle.operations.specs.declared.operation.OpFault.TheVariants as op_fault
 use Rattle.operations.specs.declared.status.Status.TheVariants as status
-use Rattle.operations.specs.Kept.{Kept, live_at}
+use Rattle.operations.specs.OperationTable.{OperationTable, live_at}
 use Rattle.record_keeper.specs.Entries.{after_changes}
 use Rattle.records.specs.declared.commands.Command.{Command}
 use Rattle.row_machine.specs.declared.changes.RowChange.{RowChange}
@@ -14,7 +14,7 @@ use Rattle.row_machine.specs.machine.State.{State}
 use Rattle.row_machine.specs.opening.Records.{records_of}
 use Rattle.row_machine.specs.machine.Changes.{applied, rows_put}
 use Rattle.row_machine.specs.machine.Plans.{changes}
-use Rattle.row_machine.specs.machine.Work.{with_power_after, power_after, ended, converted, succeeded, success_changes}
+use Rattle.row_machine.specs.machine.Operations.{with_power_after, power_after, ended, converted, succeeded, success_changes}
 use Rattle.row_machine.specs.facts.Whole.{IsWhole, AreNamed}
 use Rattle.machine_laws.specs.Entries.{entry_changes}
 use Rattle.machine_laws.specs.Records.{StaysNamed, CommandsFollow, SuccessesFollow}
@@ -37,7 +37,7 @@ commands-follow s c moment cs whole formed early unbroken plan =
 
 -- ---- what has no entry
 
-records-aside : (s : State) (k : Kept Task) → records_of (record s { operations = k }) ≡ records_of s
+records-aside : (s : State) (k : OperationTable Task) → records_of (record s { operations = k }) ≡ records_of s
 unfolding records_of
 records-aside s k = refl
 
@@ -85,5 +85,5 @@ successes-follow s o moment h live =
     acted : State
     acted = with_power_after o.work (power_after s o.work) s
 
-    later : Kept Task
+    later : OperationTable Task
     later = succeeding o.number moment acted.operations

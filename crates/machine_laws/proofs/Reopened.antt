@@ -2,7 +2,7 @@
 use Rattle.std.proofs.Common.{◌≡◌, false, Ok, [], map, sym, ap, subst, ◌∙◌}
 use Rattle.plain_lists.specs.Members.{Mem, Each}
 use Rattle.plain_lists.proofs.Elements.{Mem-left, Mem-map, Mem-from_map}
-use Rattle.operations.specs.Kept.{no_operations}
+use Rattle.operations.specs.OperationTable.{no_operations}
 use Rattle.reservations.specs.Holdings.{no_books}
 use Rattle.record_keeper.specs.Entries.{IsOrderedEntries}
 use Rattle.records.specs.declared.rows.Row.{Row}
@@ -25,7 +25,7 @@ use Rattle.machine_laws.specs.Reopening.{stopped, reopened}
 use Rattle.machine_laws.proofs.Rising.{rise-same}
 use Rattle.machine_laws.proofs.Sections.{sorted_rows, records-spelled, to-rows, from-rows}
 use Rattle.machine_laws.proofs.Reading.{ReadsBack, rows-back}
-use Rattle.machine_laws.proofs.Standings.{all-stopped, stopped-are}
+use Rattle.machine_laws.proofs.InstancePowers.{all-stopped, stopped-are}
 
 -- ---- rows that are in a state
 

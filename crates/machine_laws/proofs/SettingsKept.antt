@@ -13,8 +13,8 @@ use Rattle.operations.specs.declared.operation.OpFault.TheVariants as fault
 use Rattle.operations.specs.declared.status.Status.{Status}
 use Rattle.operations.specs.declared.status.Status.TheVariants as status
 use Rattle.operations.specs.declared.status.Status.TheVariants.{Running, Cancelling}
-use Rattle.operations.specs.Kept.{Kept, has_number, live_at}
-use Rattle.operations.specs.Kept as kept
+use Rattle.operations.specs.OperationTable.{OperationTable, has_number, live_at}
+use Rattle.operations.specs.OperationTable as kept
 use Rattle.records.specs.declared.commands.Command.{Command}
 use Rattle.records.specs.declared.notices.Untold.{Untold}
 use Rattle.records.specs.declared.rows.Instance.{Instance}
@@ -30,7 +30,7 @@ use Rattle.row_machine.specs.machine.SettingRules.{root_missing, settings_broken
 use Rattle.row_machine.specs.machine.Plans.{changes, starts}
 use Rattle.row_machine.specs.shown.Notices.{telling}
 use Rattle.row_machine.specs.machine.Step.{first_pending}
-use Rattle.row_machine.specs.machine.Work.{converted, returned, entered, with_task, moved, handing_out, one_more_done, undone, cancelled, failed, succeeded, ended, success_changes, with_power_after, power_after, after_failure}
+use Rattle.row_machine.specs.machine.Operations.{converted, returned, entered, with_task, moved, handing_out, one_more_done, undone, cancelled, failed, succeeded, ended, success_changes, with_power_after, power_after, after_failure}
 use Rattle.row_machine.specs.facts.Whole.{IsWhole, AreSettled}
 use Rattle.machine_laws.proofs.Cases.{IsAccepted, IsLiveAs, AtOnce}
 use Rattle.machine_laws.proofs.Judged.{judged, entry_judged}
@@ -98,12 +98,12 @@ module _ (s : State) (cs : List RowChange) (h : IsWhole s) (form : AtOnce s cs) 
     at : Mem i (applied s cs).instances ⊎ Mem i (of_live claimed_instance (applied s cs)) → root_missing (applied s cs) i ≡ None
     at (inl there) = (EachRow-applied s cs rows-root puts-root).instances.at i there
     at (inr claimed) = standing-root i (Mem-right i s.instances (of_live claimed_instance s)
-        (subst (λ (k : Kept Task). Mem i (filter_map (λ (o : Operation Task). claimed_instance o.work) k.live)) same-live claimed))
+        (subst (λ (k : OperationTable Task). Mem i (filter_map (λ (o : Operation Task). claimed_instance o.work) k.live)) same-live claimed))
 
   settled-at_once : AreSettled (applied s cs)
   settled-at_once = settled-by s (applied s cs)
       (rows-applied s cs (tabled-rows s h.settings) (Each-map (λ r a. accepted-any (applied s cs) s r a) (puts-accepted (applied s cs) (rows_put cs) settings)))
-      (subst (λ (k : Kept Task). Each (IsTabled s) (filter_map (λ (o : Operation Task). o.work.claim) k.live)) (sym same-live) (tabled-claims s h.settings))
+      (subst (λ (k : OperationTable Task). Each (IsTabled s) (filter_map (λ (o : Operation Task). o.work.claim) k.live)) (sym same-live) (tabled-claims s h.settings))
       roots
 
 module _ {s : State} {c : Command} {moment : ℕ} where

@@ -29,7 +29,7 @@ use Rattle.machine_laws.proofs.LimitsBroken.{Mem-filter}
 use Rattle.records.specs.declared.rows.Profile.{Profile}
 use Rattle.row_machine.specs.machine.SettingRules.{naming, tables_break, setting_refusal, scope_of, root_missing, instance_settings, profile_settings, row_settings, settings_broken}
 use Rattle.row_machine.specs.opening.Opening.{settings_invalid, devices_invalid, rule_of}
-use Rattle.row_machine.specs.machine.Work.{success_changes, renames_instance}
+use Rattle.row_machine.specs.machine.Operations.{success_changes, renames_instance}
 use Rattle.row_machine.specs.machine.Asked.{snapshots_of}
 use Rattle.row_machine.specs.machine.Rows.{instance_named, snapshot_named}
 use Rattle.machine_laws.proofs.ExpansionsNamed.{claim-is}

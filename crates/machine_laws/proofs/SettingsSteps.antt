@@ -11,17 +11,17 @@ use Rattle.plain_lists.specs.Members.{Mem, Each}
 use Rattle.plain_lists.specs.Edits.{dropped}
 use Rattle.plain_lists.proofs.Elements.{Each-append, Each-map, Mem-append, Mem-left, Mem-right}
 use Rattle.operations.specs.declared.operation.Operation.{Operation}
-use Rattle.operations.specs.Kept.{Kept, has_number}
+use Rattle.operations.specs.OperationTable.{OperationTable, has_number}
 use Rattle.records.specs.declared.notices.Notice.{Notice}
 use Rattle.records.specs.declared.rows.Instance.{Instance}
 use Rattle.records.specs.declared.rows.Row.{Row}
 use Rattle.records.specs.declared.rows.Row.TheVariants as row
 use Rattle.row_machine.specs.machine.Task.{Task}
-use Rattle.row_machine.specs.machine.State.{State, Standing}
+use Rattle.row_machine.specs.machine.State.{State, InstancePower}
 use Rattle.row_machine.specs.opening.Records.{rows_of}
 use Rattle.row_machine.specs.machine.Claims.{of_live, claimed_instance, judged_instances}
 use Rattle.row_machine.specs.machine.SettingRules.{root_missing, settings_broken}
-use Rattle.row_machine.specs.machine.Work.{claiming, entered}
+use Rattle.row_machine.specs.machine.Operations.{claiming, entered}
 use Rattle.row_machine.specs.facts.Whole.{AreSettled, claims_of}
 use Rattle.machine_laws.proofs.Expansions.{root-alike}
 use Rattle.machine_laws.proofs.ExpansionsNamed.{claim-is}
@@ -63,7 +63,7 @@ settled-fewer s t projects profiles rows claims judged h = settled-by s t rows
     (λ i m. root-alike (alike-rows s t i projects profiles) ∙ h.roots.at i (judged i m))
 
 -- operations with the same cores
-pub settled-cores : (s : State) (k : Kept Task) → cores k ≡ cores s.operations → AreSettled s → AreSettled (record s { operations = k })
+pub settled-cores : (s : State) (k : OperationTable Task) → cores k ≡ cores s.operations → AreSettled s → AreSettled (record s { operations = k })
 unfolding judged_instances
 settled-cores s k same h = settled-fewer s (record s { operations = k }) refl refl (tabled-rows s h)
     (λ r m. subst (Mem r) (of_cores (λ task. task.claim) (λ task. refl) s (record s { operations = k }) same) m)
@@ -76,7 +76,7 @@ settled-ended s t n projects profiles rest rows judged h = settled-fewer s t pro
     (λ r m. live-fewer (λ task. task.claim) s t n r rest m) judged h
 
 -- what statuses and notices leave
-pub settled-powers : (s : State) (powers : List Standing) → AreSettled s → AreSettled (record s { powers = powers })
+pub settled-powers : (s : State) (powers : List InstancePower) → AreSettled s → AreSettled (record s { powers = powers })
 unfolding judged_instances
 settled-powers s powers h = settled-fewer s (record s { powers = powers }) refl refl (tabled-rows s h) (λ r m. m) (λ i m. m) h
 

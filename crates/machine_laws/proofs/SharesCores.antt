@@ -10,7 +10,7 @@ use Rattle.plain_lists.proofs.EditLemmas.{map-changed, find-changed}
 use Rattle.plain_lists.proofs.Searches.{find-some, find-mem}
 use Rattle.operations.specs.declared.operation.Operation.{Operation}
 use Rattle.operations.specs.declared.status.Status.{Status}
-use Rattle.operations.specs.Kept.{Kept, has_number, live_at, with_work, moved}
+use Rattle.operations.specs.OperationTable.{OperationTable, has_number, live_at, with_work, moved}
 use Rattle.row_machine.specs.machine.Task.{Task}
 use Rattle.row_machine.specs.machine.State.{State}
 use Rattle.row_machine.specs.machine.Claims.{of_live}
@@ -27,7 +27,7 @@ abbrev pub core : Operation Task → ℕ × Task
 core o = (o.number, core_of o.work)
 
 -- the cores of the live operations
-abbrev pub cores : Kept Task → List (ℕ × Task)
+abbrev pub cores : OperationTable Task → List (ℕ × Task)
 cores k = map core k.live
 
 -- ---- lists
@@ -86,14 +86,14 @@ of_cores {X} read keeps s t same = by t ∙ ap (filter_map (λ (c : ℕ × Task)
 
 -- ---- each change of a live operation that does not end it
 
-pub cores-moved : (n : ℕ) (now : Status) (moment : ℕ) (k : Kept Task) → cores (moved n now moment k) ≡ cores k
+pub cores-moved : (n : ℕ) (now : Status) (moment : ℕ) (k : OperationTable Task) → cores (moved n now moment k) ≡ cores k
 cores-moved n now moment k = map-changed core (has_number n) (λ o. record o { status = now; updated = moment }) k.live (λ o hit. refl)
 
-pub cores-work : (o : Operation Task) (task : Task) (k : Kept Task) → live_at k o.number ≡ Some o → core_of task ≡ core_of o.work
+pub cores-work : (o : Operation Task) (task : Task) (k : OperationTable Task) → live_at k o.number ≡ Some o → core_of task ≡ core_of o.work
     → cores (with_work o.number task k) ≡ cores k
 cores-work o task k live same = map-changed_found core (has_number o.number) (λ x. record x { work = task }) o k.live live (ap (λ c. (o.number, c)) same)
 
-pub cores-taken : (o : Operation Task) (now : Status) (moment : ℕ) (task : Task) (k : Kept Task) → live_at k o.number ≡ Some o → core_of task ≡ core_of o.work
+pub cores-taken : (o : Operation Task) (now : Status) (moment : ℕ) (task : Task) (k : OperationTable Task) → live_at k o.number ≡ Some o → core_of task ≡ core_of o.work
     → cores (with_work o.number task (moved o.number now moment k)) ≡ cores k
 cores-taken o now moment task k live same =
     cores-work (record o { status = now; updated = moment }) task (moved o.number now moment k)

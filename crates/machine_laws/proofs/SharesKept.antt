@@ -10,7 +10,7 @@ use Rattle.operations.specs.declared.operation.OpFault.TheVariants as fault
 use Rattle.operations.specs.declared.status.Status.{Status}
 use Rattle.operations.specs.declared.status.Status.TheVariants as status
 use Rattle.operations.specs.declared.status.Status.TheVariants.{Running, Cancelling}
-use Rattle.operations.specs.Kept.{has_number, live_at}
+use Rattle.operations.specs.OperationTable.{has_number, live_at}
 use Rattle.records.specs.declared.commands.Command.{Command}
 use Rattle.records.specs.declared.notices.Untold.{Untold}
 use Rattle.row_machine.specs.declared.changes.RowChange.{RowChange}
@@ -21,10 +21,10 @@ use Rattle.row_machine.specs.machine.Claims.{share_of, amounts_of_instance, clai
 use Rattle.row_machine.specs.machine.Plans.{changes, starts}
 use Rattle.row_machine.specs.shown.Notices.{telling}
 use Rattle.row_machine.specs.machine.Step.{first_pending}
-use Rattle.row_machine.specs.machine.Work.{project_of_task, is_held_by, converted, returned, entered, with_task, moved, handing_out, one_more_done, undone, cancelled, failed, succeeded, ended, success_changes, with_power_after, power_after, after_failure}
+use Rattle.row_machine.specs.machine.Operations.{project_of_task, is_held_by, converted, returned, entered, with_task, moved, handing_out, one_more_done, undone, cancelled, failed, succeeded, ended, success_changes, with_power_after, power_after, after_failure}
 use Rattle.row_machine.specs.facts.Whole.{IsWhole, held_by}
 use Rattle.machine_laws.proofs.Cases.{IsAccepted, IsLiveAs, AtOnce}
-use Rattle.machine_laws.proofs.BooksSteps.{HasSameWork, applied-same, power-keeps, failure-keeps, telling-keeps}
+use Rattle.machine_laws.proofs.BooksSteps.{HasSameBooking, applied-same, power-keeps, failure-keeps, telling-keeps}
 use Rattle.machine_laws.proofs.LimitsRows.{tables, IsDone}
 use Rattle.machine_laws.proofs.LimitsSuccess.{success-rows}
 use Rattle.machine_laws.proofs.SharesCores.{map-each, cores-work, cores-moved, cores-taken, live-pending}
@@ -54,7 +54,7 @@ returned-held s n now why moment h =
 -- what a live operation replaces is there as it was after changes at once
 replaced-at_once : (s : State) (cs : List RowChange) (o : Operation Task) → IsWhole s → AtOnce s cs → Mem o s.operations.live
     → replaced_instance (applied s cs) o.work ≡ replaced_instance s o.work
-replaced-at_once s cs o h form live = at (replaces-or_not s o.work (h.operations.deeds.at o live) (h.links.operations.at o live)) where
+replaced-at_once s cs o h form live = at (replaces-or_not s o.work (h.operations.deeds.at o live) (h.references.operations.at o live)) where
   by : State → Option (List ℕ × List ℕ) → Option Instance
   by u names = option_and_then (λ (n : List ℕ × List ℕ). instance_named u.instances n.0 n.1) names
 
@@ -69,7 +69,7 @@ shares-at_once s cs h form settings =
     ∙ sym (map-each (held_by (applied s cs)) (held_by s) s.operations.live
     (record { at = λ o m. ap (λ share. record { op = o.number; project = project_of_task o.work; share = share }) (share o m) }))
     ∙ sym (ap (λ k. map (held_by (applied s cs)) k.live) same.operations) where
-      same : HasSameWork s (applied s cs)
+      same : HasSameBooking s (applied s cs)
       same = applied-same cs s
 
       share : (o : Operation Task) → Mem o s.operations.live → share_of (applied s cs) o.work ≡ share_of s o.work
@@ -137,7 +137,7 @@ module _ (s : State) (o : Operation Task) where
         later : State
         later = converted o.number (ended o.number status.Success fault.None moment (applied powered (success_changes s o.work)))
 
-        rows : HasSameWork powered (applied powered (success_changes s o.work))
+        rows : HasSameBooking powered (applied powered (success_changes s o.work))
         rows = applied-same (success_changes s o.work) powered
 
         power_held : powered.held ≡ s.held

@@ -5,12 +5,12 @@ use Rattle.std.proofs.lemmas.List.{map-append}
 use Rattle.plain_lists.specs.Members.{Each}
 use Rattle.plain_lists.specs.Edits.{dropped}
 use Rattle.operations.specs.declared.operation.Operation.{Operation}
-use Rattle.operations.specs.Kept.{Kept, has_number}
+use Rattle.operations.specs.OperationTable.{OperationTable, has_number}
 use Rattle.row_machine.specs.machine.Task.{Task}
 use Rattle.reservations.specs.declared.books.Hold.{Hold}
 use Rattle.row_machine.specs.machine.State.{State}
 use Rattle.row_machine.specs.machine.Claims.{share_of, amounts_of_instance}
-use Rattle.row_machine.specs.machine.Work.{project_of_task, is_held_by, entered}
+use Rattle.row_machine.specs.machine.Operations.{project_of_task, is_held_by, entered}
 use Rattle.row_machine.specs.facts.Whole.{held_by}
 use Rattle.machine_laws.proofs.SharesCores.{core_of, core, cores, map-map, map-each, dropped-map}
 
@@ -67,6 +67,6 @@ unfolding share_of amounts_of_instance
 held-notices s notices next h = h
 
 -- the share where rows are the same
-pub share-rows : (s : State) (k : Kept Task) (task : Task) → share_of (record s { operations = k }) task ≡ share_of s task
+pub share-rows : (s : State) (k : OperationTable Task) (task : Task) → share_of (record s { operations = k }) task ≡ share_of s task
 unfolding share_of amounts_of_instance
 share-rows s k task = refl

@@ -9,7 +9,7 @@ use Rattle.plain_lists.proofs.Searches.{find-some}
 use Rattle.size_values.specs.declared.kinds.Deed.TheVariants as deed
 use Rattle.size_values.specs.declared.kinds.ObjectKind.TheVariants as kind
 use Rattle.operations.specs.declared.operation.Operation.{Operation}
-use Rattle.operations.specs.Kept.{has_number, live_at}
+use Rattle.operations.specs.OperationTable.{has_number, live_at}
 use Rattle.records.specs.declared.commands.Target.{Target}
 use Rattle.records.specs.declared.rows.Instance.{Instance}
 use Rattle.records.specs.declared.rows.Row.TheVariants as row
@@ -19,7 +19,7 @@ use Rattle.row_machine.specs.machine.State.{State}
 use Rattle.row_machine.specs.machine.Rows.{is_instance, instance_named, instance_names, with_instance, texts_before}
 use Rattle.row_machine.specs.machine.Changes.{has_key}
 use Rattle.row_machine.specs.machine.Claims.{claimed_instance, replaced_instance, amounts_of_instance, share_of}
-use Rattle.row_machine.specs.shown.Links.{target_of}
+use Rattle.row_machine.specs.shown.Urls.{target_of}
 use Rattle.row_machine.specs.facts.Whole.{IsWhole, IsByDeed, IsPlaced, new_instance}
 use Rattle.row_machine.specs.machine.Deeds.{target_kind, keeps_name}
 use Rattle.machine_laws.proofs.ExpansionsApart.{fails-by, find-dropped_each}
@@ -48,7 +48,7 @@ module _ (s : State) (o x : Operation Task) (h : IsWhole s) (live : live_at s.op
   deeds = h.operations.deeds.at o o_live
 
   placed : IsPlaced s o.work
-  placed = h.links.operations.at o o_live
+  placed = h.references.operations.at o o_live
 
   -- what the claim of o is named by is busy with o
   not-claimed : (i : Instance) → o.work.claim ≡ Some (row.Instance i) → o.work.deed ≢ deed.Rename → (i.project ≡ x.work.project) × (i.name ≡ x.work.target.name) → ⊥
@@ -125,7 +125,7 @@ pub share-done : (s : State) (o x : Operation Task) (t : State) → IsWhole s �
     → Mem x (dropped (has_number o.number) s.operations.live) → IsDone (tables s) o.work (tables t) → share_of t x.work ≡ share_of s x.work
 share-done s o x t h live other done = share-alike x.work (record {
   claimed = λ i is. same i;
-  replaced = at (replaces-or_not s x.work (h.operations.deeds.at x x_live) (h.links.operations.at x x_live));
+  replaced = at (replaces-or_not s x.work (h.operations.deeds.at x x_live) (h.references.operations.at x x_live));
   old = λ i is. same i;
 }) where
   x_live : Mem x s.operations.live

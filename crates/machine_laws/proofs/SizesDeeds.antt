@@ -11,7 +11,7 @@ use Rattle.size_values.specs.declared.kinds.Deed.TheVariants as deed
 use Rattle.size_values.specs.declared.kinds.ObjectKind.{ObjectKind}
 use Rattle.size_values.specs.declared.kinds.ObjectKind.TheVariants as kind
 use Rattle.operations.specs.declared.operation.Operation.{Operation}
-use Rattle.operations.specs.Kept.{Kept}
+use Rattle.operations.specs.OperationTable.{OperationTable}
 use Rattle.records.specs.declared.rows.Instance.{Instance}
 use Rattle.records.specs.declared.rows.Snapshot.{Snapshot}
 use Rattle.records.specs.declared.rows.Row.{Row}
@@ -19,14 +19,14 @@ use Rattle.records.specs.declared.rows.Row.TheVariants as row
 use Rattle.row_codec.specs.Spelling.{key_of}
 use Rattle.row_machine.specs.declared.changes.RowChange.TheVariants as change
 use Rattle.row_machine.specs.machine.Task.{Task}
-use Rattle.row_machine.specs.machine.State.{State, Standing}
+use Rattle.row_machine.specs.machine.State.{State, InstancePower}
 use Rattle.row_machine.specs.machine.Rows.{instance_named, snapshot_named}
 use Rattle.row_machine.specs.machine.Asked.{snapshots_of}
 use Rattle.row_machine.specs.machine.Changes.{applied, rows_put, removal}
 use Rattle.row_machine.specs.machine.Claims.{claimed_instance}
-use Rattle.row_machine.specs.shown.Links.{target_of}
+use Rattle.row_machine.specs.shown.Urls.{target_of}
 use Rattle.row_machine.specs.machine.TableRules.{count_of}
-use Rattle.row_machine.specs.machine.Work.{success_changes, removes_instance, renames_instance}
+use Rattle.row_machine.specs.machine.Operations.{success_changes, removes_instance, renames_instance}
 use Rattle.row_machine.specs.machine.Deeds.{claim_kind}
 use Rattle.machine_laws.proofs.NamesRows.{EachRow}
 use Rattle.machine_laws.proofs.NamesApplied.{puts-each, removals-each, removals-none}
@@ -114,10 +114,10 @@ claimed (row.Instance r) h = h
 claimed (row.Snapshot r) h = h
 
 -- the state once an operation has ended, with these statuses
-abbrev pub with_operations : State → Kept Task → List Standing → State
+abbrev pub with_operations : State → OperationTable Task → List InstancePower → State
 with_operations s k powers = record s { powers = powers; operations = k }
 
-claim-counts : (s : State) (k : Kept Task) (powers : List Standing) (o : Operation Task) → Puts o k.live s.operations.live → (of : ObjectKind) → can_claim of
+claim-counts : (s : State) (k : OperationTable Task) (powers : List InstancePower) (o : Operation Task) → Puts o k.live s.operations.live → (of : ObjectKind) → can_claim of
     → option_map (λ r. (target_of r).kind) o.work.claim ≡ Some of
     → HasNoMore (applied (with_operations s k powers) (map change.Put (option_to_list o.work.claim))) s
 claim-counts s k powers o put of can is = at o.work.claim refl is where
@@ -128,15 +128,15 @@ claim-counts s k powers o put of can is = at o.work.claim refl is where
       let same : of ≡ (target_of r).kind = cc in
       claim-no-more (record s { powers = powers }) k o r put some (claimed r (subst can_claim same can))
 
-removal-counts : (s : State) (k : Kept Task) (powers : List Standing) (o : Operation Task) → Puts o k.live s.operations.live → (rows : List Row)
+removal-counts : (s : State) (k : OperationTable Task) (powers : List InstancePower) (o : Operation Task) → Puts o k.live s.operations.live → (rows : List Row)
     → HasNoMore (applied (with_operations s k powers) (map removal rows)) s
 removal-counts s k powers o put rows of =
     omega (arith, removals-no-more rows (with_operations s k powers) of, fewer-no-more (record s { powers = powers }) k o put of)
 
-nothing-counts : (s : State) (k : Kept Task) (powers : List Standing) (o : Operation Task) → Puts o k.live s.operations.live → HasNoMore (with_operations s k powers) s
+nothing-counts : (s : State) (k : OperationTable Task) (powers : List InstancePower) (o : Operation Task) → Puts o k.live s.operations.live → HasNoMore (with_operations s k powers) s
 nothing-counts s k powers o put = fewer-no-more (record s { powers = powers }) k o put
 
-rename-counts : (s : State) (k : Kept Task) (powers : List Standing) (o : Operation Task) → Puts o k.live s.operations.live → IsSized s o.work
+rename-counts : (s : State) (k : OperationTable Task) (powers : List InstancePower) (o : Operation Task) → Puts o k.live s.operations.live → IsSized s o.work
     → HasNoMore (applied (with_operations s k powers) (option_map_or (renames_instance s o.work) (claimed_instance o.work) [])) s
 rename-counts s k powers o put e = at (claimed_instance o.work) refl where
   snapshots : List Snapshot
@@ -158,7 +158,7 @@ rename-counts s k powers o put e = at (claimed_instance o.work) refl where
 abbrev pub with_deed : Deed → Operation Task → Operation Task
 with_deed d o = record o { work = record o.work { deed = d } }
 
-pub deed-counts : (s : State) (k : Kept Task) (powers : List Standing) (o : Operation Task) (d : Deed) → Puts (with_deed d o) k.live s.operations.live
+pub deed-counts : (s : State) (k : OperationTable Task) (powers : List InstancePower) (o : Operation Task) (d : Deed) → Puts (with_deed d o) k.live s.operations.live
     → IsSized s (with_deed d o).work → HasNoMore (applied (with_operations s k powers) (success_changes s (with_deed d o).work)) s
 deed-counts s k powers o deed.Create put e = claim-counts s k powers (with_deed deed.Create o) put kind.Instance tt e.kind
 deed-counts s k powers o deed.Copy put e = claim-counts s k powers (with_deed deed.Copy o) put kind.Instance tt e.kind

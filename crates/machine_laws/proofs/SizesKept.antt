@@ -4,7 +4,7 @@ use Rattle.host_model.specs.declared.call.HostCall.{HostCall}
 use Rattle.operations.specs.declared.operation.Operation.{Operation}
 use Rattle.operations.specs.declared.operation.OpFault.{OpFault}
 use Rattle.operations.specs.declared.status.Status.TheVariants.{Running, Cancelling}
-use Rattle.operations.specs.Kept.{live_at}
+use Rattle.operations.specs.OperationTable.{live_at}
 use Rattle.records.specs.declared.commands.Command.{Command}
 use Rattle.records.specs.declared.notices.Untold.{Untold}
 use Rattle.row_machine.specs.declared.changes.RowChange.{RowChange}
@@ -12,7 +12,7 @@ use Rattle.row_machine.specs.machine.Task.{Task}
 use Rattle.row_machine.specs.machine.State.{State}
 use Rattle.row_machine.specs.machine.Changes.{applied, rows_put}
 use Rattle.row_machine.specs.machine.Plans.{changes, starts}
-use Rattle.row_machine.specs.machine.Work.{with_task, moved, handing_out, one_more_done, undone, claiming, entered, succeeded, failed, cancelled}
+use Rattle.row_machine.specs.machine.Operations.{with_task, moved, handing_out, one_more_done, undone, claiming, entered, succeeded, failed, cancelled}
 use Rattle.row_machine.specs.shown.Notices.{telling}
 use Rattle.row_machine.specs.machine.Step.{first_pending}
 use Rattle.row_machine.specs.facts.Whole.{IsWhole, AreFew}

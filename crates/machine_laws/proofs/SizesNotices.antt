@@ -29,7 +29,7 @@ counted-ring cap next n ns is h = counted-drop (length (ns ++ n ∷ []) - cap) (
 few-notice : (n : Untold) (s : State) → AreFew s → AreFew (push_notice n s)
 few-notice n s h = at (s.next_notice == 2 ^ 64 - 1) refl where
   new : Notice
-  new = record { number = s.next_notice; moment = n.moment; project = n.project; told = n.told }
+  new = record { number = s.next_notice; moment = n.moment; project = n.project; body = n.body }
 
   at : (b : Bool) → (s.next_notice == 2 ^ 64 - 1) ≡ b
       → AreFew (cond b s (record s { notices = ring_push kept_notices new s.notices; next_notice = s.next_notice + 1 }))

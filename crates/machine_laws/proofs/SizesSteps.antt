@@ -19,8 +19,8 @@ use Rattle.operations.specs.declared.operation.OpFault.{OpFault}
 use Rattle.operations.specs.declared.operation.OpFault.TheVariants as op_fault
 use Rattle.operations.specs.declared.status.Status.{Status}
 use Rattle.operations.specs.declared.status.Status.TheVariants as status
-use Rattle.operations.specs.Kept.{Kept, has_number, live_at}
-use Rattle.operations.specs.Kept as kept
+use Rattle.operations.specs.OperationTable.{OperationTable, has_number, live_at}
+use Rattle.operations.specs.OperationTable as kept
 use Rattle.reservations.specs.declared.books.Books.{Books}
 use Rattle.records.specs.declared.notices.Notice.{Notice}
 use Rattle.records.specs.declared.rows.Row.{Row}
@@ -29,11 +29,11 @@ use Rattle.row_machine.specs.declared.changes.RowChange.{RowChange}
 use Rattle.row_machine.specs.declared.changes.RowChange.TheVariants as change
 use Rattle.row_machine.specs.machine.Task.{Task}
 use Rattle.reservations.specs.declared.books.Hold.{Hold}
-use Rattle.row_machine.specs.machine.State.{State, Standing}
+use Rattle.row_machine.specs.machine.State.{State, InstancePower}
 use Rattle.row_machine.specs.machine.Changes.{applied, with_row, without_row, rows_put}
 use Rattle.row_machine.specs.machine.Claims.{of_live, claimed_instance, claimed_volume, claimed_snapshot}
 use Rattle.row_machine.specs.opening.Records.{rows_of}
-use Rattle.row_machine.specs.machine.Work.{with_task, moved, claiming, entered, with_power, with_power_after, power_after, ended, returned, converted, cancelled, failed, succeeded, success_changes}
+use Rattle.row_machine.specs.machine.Operations.{with_task, moved, claiming, entered, with_power, with_power_after, power_after, ended, returned, converted, cancelled, failed, succeeded, success_changes}
 use Rattle.row_machine.specs.machine.Deeds.{breaks_instance}
 use Rattle.row_machine.specs.shown.Notices.{kept_notices}
 use Rattle.row_machine.specs.facts.Whole.{IsWhole, AreFew, AreCounted, claims_of}
@@ -49,7 +49,7 @@ use Rattle.machine_laws.proofs.SizesDeeds.{IsSized, with_operations, deed-small,
 
 -- ---- operations that claim the same
 
-few-live : (s : State) (k : Kept Task)
+few-live : (s : State) (k : OperationTable Task)
     → read_of (λ task. task.claim) k.live ≡ claims_of s
     → read_of claimed_volume k.live ≡ of_live claimed_volume s
     → read_of claimed_instance k.live ≡ of_live claimed_instance s
@@ -112,7 +112,7 @@ few-entered s task moment roomy small h = record {
 
 -- ---- what sizes do not speak of
 
-few-aside : (s : State) (powers : List Standing) (held : List Hold) (books : Books) → AreFew s → AreFew (record s { powers = powers; held = held; books = books })
+few-aside : (s : State) (powers : List InstancePower) (held : List Hold) (books : Books) → AreFew s → AreFew (record s { powers = powers; held = held; books = books })
 few-aside s powers held books h = record {
   tables = h.tables;
   rows = h.rows;
@@ -193,7 +193,7 @@ few-applied s cs roomy small h = record {
   tables = roomy;
   rows = Each-append
       (rows-applied s cs (Each-left (claims_of s) h.rows) small)
-      (subst (λ (k : Kept Task). Each IsSmall (read_of (λ task. task.claim) k.live)) (sym (applied-operations cs s)) (Each-right (rows_of s) h.rows));
+      (subst (λ (k : OperationTable Task). Each IsSmall (read_of (λ task. task.claim) k.live)) (sym (applied-operations cs s)) (Each-right (rows_of s) h.rows));
   notices = subst (λ (t : List Notice × ℕ). AreCounted t.1 t.0) (sym (applied-notices cs s)) h.notices;
   few_notices = subst (λ (t : List Notice × ℕ). length t.0 ≤ kept_notices) (sym (applied-notices cs s)) h.few_notices;
   from_one = subst (λ (t : List Notice × ℕ). 1 ≤ t.1) (sym (applied-notices cs s)) h.from_one;
@@ -218,13 +218,13 @@ power_after-is : (task : Task) (power : Option Power) (s : State) → with_power
 power_after-is task None s = refl
 power_after-is task (Some power) s = refl
 
-success-few : (s : State) (o : Operation Task) (moment : ℕ) (powers : List Standing) → IsWhole s → live_at s.operations o.number ≡ Some o
+success-few : (s : State) (o : Operation Task) (moment : ℕ) (powers : List InstancePower) → IsWhole s → live_at s.operations o.number ≡ Some o
     → AreFew (ended o.number status.Success op_fault.None moment (applied (record s { powers = powers }) (success_changes s o.work)))
 success-few s o moment powers h live = subst AreFew (sym whole) after where
   acted : State
   acted = record s { powers = powers }
 
-  later : Kept Task
+  later : OperationTable Task
   later = succeeding o.number moment s.operations
 
   whole : ended o.number status.Success op_fault.None moment (applied acted (success_changes s o.work)) ≡ applied (with_operations s later powers) (success_changes s o.work)

@@ -11,7 +11,7 @@ use Rattle.std.proofs.lemmas.Bool.{ltb-false}
 use Rattle.size_values.specs.declared.kinds.ObjectKind.{ObjectKind}
 use Rattle.size_values.specs.declared.kinds.ObjectKind.TheVariants as kind
 use Rattle.operations.specs.declared.operation.Operation.{Operation}
-use Rattle.operations.specs.Kept.{Kept}
+use Rattle.operations.specs.OperationTable.{OperationTable}
 use Rattle.records.specs.declared.rows.Row.{Row}
 use Rattle.records.specs.declared.rows.Row.TheVariants as row
 use Rattle.row_machine.specs.machine.Task.{Task}
@@ -78,7 +78,7 @@ pub reads-one : {X : Type 0} (read : Task → Option X) (o : Operation Task) (x 
     → read o.work ≡ Some x → length (read_of read live) ≡ length (read_of read less) + 1
 reads-one read o x put is = length-Puts (read-Puts (λ (y : Operation Task). read y.work) put is)
 
-pub fewer-no-more : (s : State) (k : Kept Task) (o : Operation Task) → Puts o k.live s.operations.live → HasNoMore (record s { operations = k }) s
+pub fewer-no-more : (s : State) (k : OperationTable Task) (o : Operation Task) → Puts o k.live s.operations.live → HasNoMore (record s { operations = k }) s
 fewer-no-more s k o put kind.Volume = let le = reads-fewer claimed_volume o put in omega arith
 fewer-no-more s k o put kind.Instance = let le = reads-fewer claimed_instance o put in omega arith
 fewer-no-more s k o put kind.Snapshot = let le = reads-fewer claimed_snapshot o put in omega arith
@@ -94,7 +94,7 @@ IsClaimed (row.Snapshot r) = Unit {0}
 IsClaimed other = ⊥
 
 -- the claim is counted no longer, and the row is
-pub claim-no-more : (s : State) (k : Kept Task) (o : Operation Task) (r : Row) → Puts o k.live s.operations.live → o.work.claim ≡ Some r → IsClaimed r
+pub claim-no-more : (s : State) (k : OperationTable Task) (o : Operation Task) (r : Row) → Puts o k.live s.operations.live → o.work.claim ≡ Some r → IsClaimed r
     → HasNoMore (with_row r (record s { operations = k })) s
 claim-no-more s k o (row.Volume r) put is claimed kind.Volume =
     let le = length-put (is_volume r.project r.pool r.name) (λ y. texts_before (volume_names r) (volume_names y)) r s.volumes in

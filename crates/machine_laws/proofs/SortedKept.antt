@@ -14,7 +14,7 @@ use Rattle.size_values.specs.declared.kinds.Deed.TheVariants as deed
 use Rattle.operations.specs.declared.operation.Operation.{Operation}
 use Rattle.operations.specs.declared.operation.OpFault.{OpFault}
 use Rattle.operations.specs.declared.status.Status.TheVariants.{Cancelling}
-use Rattle.operations.specs.Kept.{has_number, live_at}
+use Rattle.operations.specs.OperationTable.{has_number, live_at}
 use Rattle.records.specs.declared.commands.Command.{Command}
 use Rattle.records.specs.declared.notices.Untold.{Untold}
 use Rattle.records.specs.declared.rows.Instance.{Instance}
@@ -34,7 +34,7 @@ use Rattle.row_machine.specs.machine.Changes.{applied, rows_put}
 use Rattle.row_machine.specs.machine.Claims.{claimed_instance}
 use Rattle.row_machine.specs.shown.Notices.{telling}
 use Rattle.row_machine.specs.machine.Plans.{changes, starts}
-use Rattle.row_machine.specs.machine.Work.{entered, with_task, moved, one_more_done, undone, cancelled, failed, succeeded, success_changes, renames_instance, power_after, with_power_after}
+use Rattle.row_machine.specs.machine.Operations.{entered, with_task, moved, one_more_done, undone, cancelled, failed, succeeded, success_changes, renames_instance, power_after, with_power_after}
 use Rattle.row_machine.specs.facts.Whole.{IsWhole, claims_of}
 use Rattle.machine_laws.specs.Sorted.{IsSortedRow, IsSortedRequest, IsSortedEvent, AreSortedRows, StepsKeepOrder}
 use Rattle.machine_laws.proofs.Base.{live-mem, first-live, task-reads, moved-reads, taken-reads, taken_state, entered-reads}

@@ -12,7 +12,7 @@ use Rattle.operations.specs.declared.status.Status.{Status}
 use Rattle.operations.specs.declared.status.Status.TheVariants as status
 use Rattle.operations.specs.declared.status.Status.TheVariants.{Pending, Running, Cancelling}
 use Rattle.operations.specs.Statuses.{is_live, cancel_of}
-use Rattle.operations.specs.Kept.{has_number, live_at, kept_at, cancel_answer}
+use Rattle.operations.specs.OperationTable.{has_number, live_at, kept_at, cancel_answer}
 use Rattle.operations.proofs.KeptLemmas.{live-from_kept}
 use Rattle.records.specs.Forms.{is_formed}
 use Rattle.records.specs.declared.commands.Command.{Command}
@@ -28,7 +28,7 @@ use Rattle.row_machine.specs.machine.Task.{Task}
 use Rattle.row_machine.specs.machine.State.{State}
 use Rattle.row_machine.specs.machine.Changes.{applied}
 use Rattle.row_machine.specs.machine.Plans.{Plan, nothing, changes, starts, plan_of}
-use Rattle.row_machine.specs.machine.Work.{entered, moved, with_task, handing_out, one_more_done, undone, succeeded, failed, cancelled, success_changes}
+use Rattle.row_machine.specs.machine.Operations.{entered, moved, with_task, handing_out, one_more_done, undone, succeeded, failed, cancelled, success_changes}
 use Rattle.row_machine.specs.shown.Notices.{telling, operation_notice, change_notices, success_notices}
 use Rattle.row_machine.specs.machine.Rules.{broken}
 use Rattle.row_machine.specs.machine.Accept.{After, accepted, carried_out, with_operation_notice, after_cancel, cancel_or_read}

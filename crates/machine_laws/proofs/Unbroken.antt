@@ -22,7 +22,7 @@ use Rattle.row_machine.specs.machine.Rows.{default_name}
 use Rattle.row_machine.specs.machine.Kinds.{cap_of}
 use Rattle.row_machine.specs.machine.LimitRules.{part_exceeds, networks_exceed, limits_broken}
 use Rattle.row_machine.specs.machine.TableRules.{row_kinds, too_large, size_of, largest_row}
-use Rattle.row_machine.specs.opening.Opening.{Opening, broken, broken_at, home_missing, parent_row_missing, profiles_malformed, defaults_missing, settings_invalid, devices_invalid, root_disk_missing, named_row_missing, forbidden, uncountable, row_rules, row_breaks, limit_breaks, past_cap, size_breaks, rows_break}
+use Rattle.row_machine.specs.opening.Opening.{Opening, broken, broken_at, home_missing, parent_row_missing, profiles_malformed, defaults_missing, settings_invalid, devices_invalid, root_disk_missing, named_row_missing, forbidden, row_lacks_amount, row_rules, row_breaks, limit_breaks, past_cap, size_breaks, rows_break}
 use Rattle.machine_laws.proofs.OpeningRows.{of_kind}
 use Rattle.machine_laws.proofs.OpeningRules.{AreAccepted}
 
@@ -44,7 +44,7 @@ module _ (s : State) (rows : List Row) (a : AreAccepted s rows) where
       (Each-cons _ (rule-unbroken settings_invalid a.settings)
       (Each-cons _ (rule-unbroken devices_invalid a.devices)
       (Each-cons _ (rule-unbroken root_disk_missing a.roots)
-      (Each-cons _ (rule-unbroken named_row_missing a.links)
+      (Each-cons _ (rule-unbroken named_row_missing a.references)
       (Each-cons _ (policy 1 (inl refl))
       (Each-cons _ (policy 2 (inr (inl refl)))
       (Each-cons _ (policy 3 (inr (inr (inl refl))))
@@ -52,7 +52,7 @@ module _ (s : State) (rows : List Row) (a : AreAccepted s rows) where
       (Each-cons _ (policy 5 (inr (inr (inr (inr (inl refl))))))
       (Each-cons _ (policy 6 (inr (inr (inr (inr (inr (inl refl)))))))
       (Each-cons _ (policy 7 (inr (inr (inr (inr (inr (inr (inl refl))))))))
-      (Each-cons _ (rule-unbroken uncountable a.counts) Each-none))))))))))))))))
+      (Each-cons _ (rule-unbroken row_lacks_amount a.counts) Each-none))))))))))))))))
 
   -- ---- limits
 

@@ -13,7 +13,7 @@ use Rattle.operations.specs.declared.operation.Operation.{Operation}
 use Rattle.operations.specs.declared.operation.OpFault.{OpFault}
 use Rattle.operations.specs.declared.operation.OpFault.TheVariants as fault
 use Rattle.operations.specs.declared.status.Status.TheVariants.{Pending, Running, Cancelling}
-use Rattle.operations.specs.Kept.{Kept, has_number, live_at}
+use Rattle.operations.specs.OperationTable.{OperationTable, has_number, live_at}
 use Rattle.records.specs.declared.commands.Command.{Command}
 use Rattle.records.specs.declared.notices.Untold.{Untold}
 use Rattle.row_machine.specs.declared.changes.RowChange.{RowChange}
@@ -23,7 +23,7 @@ use Rattle.row_machine.specs.machine.Changes.{applied}
 use Rattle.row_machine.specs.machine.Plans.{changes, starts}
 use Rattle.row_machine.specs.shown.Notices.{telling}
 use Rattle.row_machine.specs.machine.Step.{first_pending}
-use Rattle.row_machine.specs.machine.Work.{entered, with_task, moved, handing_out, one_more_done, undone, cancelled, failed, succeeded, success_changes, power_after, with_power_after}
+use Rattle.row_machine.specs.machine.Operations.{entered, with_task, moved, handing_out, one_more_done, undone, cancelled, failed, succeeded, success_changes, power_after, with_power_after}
 use Rattle.row_machine.specs.facts.Whole.{IsWhole, IsUnderWay, calls_out}
 use Rattle.machine_laws.proofs.Cases.{IsAccepted, IsLiveAs}
 use Rattle.machine_laws.proofs.BeginsCases.{begins}
@@ -54,7 +54,7 @@ waiting task n moment why h = record {
   by (Some c) e = e
 
 pub under_way-changes : {s : State} {c : Command} {moment : ℕ} {cs : List RowChange} → IsAccepted s c moment (changes cs) → AreUnderWay (applied s cs)
-under_way-changes {s} {c} {moment} {cs} h = subst (λ (k : Kept Task). Each IsUnderWay k.live) (sym (applied-same cs s).operations) h.whole.under_way
+under_way-changes {s} {c} {moment} {cs} h = subst (λ (k : OperationTable Task). Each IsUnderWay k.live) (sym (applied-same cs s).operations) h.whole.under_way
 
 pub under_way-entered : {s : State} {c : Command} {moment : ℕ} {task : Task} → IsAccepted s c moment (starts task) → AreUnderWay (entered s task moment)
 unfolding entered
@@ -172,14 +172,14 @@ pub under_way-failed : (s : State) (o : Operation Task) (why : OpFault) (done mo
 unfolding failed
 under_way-failed s o why done moment l =
     Each-dropped (has_number o.number)
-    (subst (λ (k : Kept Task). Each IsUnderWay k.live)
+    (subst (λ (k : OperationTable Task). Each IsUnderWay k.live)
     (sym (failure-keeps (λ t. t.operations ≡ s.operations) (λ t powers e. e) o.work done s refl)) l.whole.under_way)
 
 pub under_way-succeeded : (s : State) (o : Operation Task) (moment : ℕ) → IsLiveAs s o Running → o.work.calls ≡ [] → AreUnderWay (succeeded s o moment)
 unfolding succeeded
 under_way-succeeded s o moment l none =
     Each-dropped (has_number o.number)
-    (subst (λ (k : Kept Task). Each IsUnderWay k.live)
+    (subst (λ (k : OperationTable Task). Each IsUnderWay k.live)
     (sym ((applied-same (success_changes s o.work) (with_power_after o.work (power_after s o.work) s)).operations
     ∙ power-keeps (λ t. t.operations ≡ s.operations) (λ t powers e. e) o.work (power_after s o.work) s refl))
     l.whole.under_way)

@@ -23,10 +23,10 @@ use Rattle.operations.specs.declared.status.Status.{Status}
 use Rattle.operations.specs.declared.status.Status.TheVariants as status
 use Rattle.operations.specs.declared.status.Status.TheVariants.{Pending, Running, Cancelling}
 use Rattle.operations.specs.Statuses.{is_pending}
-use Rattle.operations.specs.Kept.{Kept, has_number, live_at}
+use Rattle.operations.specs.OperationTable.{OperationTable, has_number, live_at}
 use Rattle.row_machine.specs.machine.Task.{Task}
 use Rattle.row_machine.specs.machine.State.{State}
-use Rattle.row_machine.specs.machine.Work.{handing_out, one_more_done, undone}
+use Rattle.row_machine.specs.machine.Operations.{handing_out, one_more_done, undone}
 use Rattle.row_machine.specs.machine.Accept.{After}
 use Rattle.row_machine.specs.machine.Step.{step}
 use Rattle.row_machine.specs.facts.Whole.{IsWhole, IsUnderWay, calls_out}
@@ -193,7 +193,7 @@ lessens s None x h alone (takes o call rest t moment first calls is) = record {
   change x = record x { status = Running; updated = moment; work = handing_out o.work rest }
 
   live : t.operations.live ≡ changed_first (has_number o.number) change s.operations.live
-  live = ap (λ (k : Kept Task). k.live) is ∙ taken-live s o rest moment
+  live = ap (λ (k : OperationTable Task). k.live) is ∙ taken-live s o rest moment
 
   fewer : steps (change o) + 1 ≤ steps o
   fewer =

@@ -13,12 +13,12 @@ use Rattle.operations.specs.declared.status.Status.{Status}
 use Rattle.operations.specs.declared.status.Status.TheVariants as status
 use Rattle.operations.specs.declared.status.Status.TheVariants.{Pending, Running, Cancelling}
 use Rattle.operations.specs.Statuses.{is_live}
-use Rattle.operations.specs.Kept.{has_number, live_at}
+use Rattle.operations.specs.OperationTable.{has_number, live_at}
 use Rattle.row_machine.specs.declared.changes.RowChange.{RowChange}
 use Rattle.row_machine.specs.declared.events.Answer.TheVariants as answer
 use Rattle.row_machine.specs.machine.Task.{Task}
 use Rattle.row_machine.specs.machine.State.{State}
-use Rattle.row_machine.specs.machine.Work.{with_task, moved, handing_out, one_more_done, undone, succeeded, failed, cancelled, success_changes}
+use Rattle.row_machine.specs.machine.Operations.{with_task, moved, handing_out, one_more_done, undone, succeeded, failed, cancelled, success_changes}
 use Rattle.row_machine.specs.shown.Notices.{telling, operation_notice, success_notices}
 use Rattle.row_machine.specs.machine.Accept.{After, and_then, with_operation_notice}
 use Rattle.row_machine.specs.machine.Step.{Outcome, well, keeper_failed, no_memory, step, success, failure, after_end, taken, handed_out, first_pending, done, reported, while_running, while_cancelling, call_done, call_failed, committed, always}

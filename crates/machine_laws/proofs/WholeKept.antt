@@ -5,7 +5,7 @@ use Rattle.host_model.specs.declared.call.HostCall.{HostCall}
 use Rattle.operations.specs.declared.operation.Operation.{Operation}
 use Rattle.operations.specs.declared.operation.OpFault.{OpFault}
 use Rattle.operations.specs.declared.status.Status.TheVariants.{Running, Cancelling}
-use Rattle.operations.specs.Kept.{live_at}
+use Rattle.operations.specs.OperationTable.{live_at}
 use Rattle.records.specs.declared.commands.Command.{Command}
 use Rattle.records.specs.declared.notices.Untold.{Untold}
 use Rattle.row_machine.specs.declared.changes.RowChange.{RowChange}
@@ -15,13 +15,13 @@ use Rattle.row_machine.specs.machine.Changes.{applied}
 use Rattle.row_machine.specs.machine.Plans.{changes, starts}
 use Rattle.row_machine.specs.shown.Notices.{telling}
 use Rattle.row_machine.specs.machine.Step.{first_pending}
-use Rattle.row_machine.specs.machine.Work.{entered, with_task, moved, handing_out, one_more_done, undone, cancelled, failed, succeeded}
+use Rattle.row_machine.specs.machine.Operations.{entered, with_task, moved, handing_out, one_more_done, undone, cancelled, failed, succeeded}
 use Rattle.row_machine.specs.facts.Whole.{IsWhole}
 use Rattle.machine_laws.proofs.Cases.{IsAccepted, IsLiveAs}
-use Rattle.machine_laws.proofs.LinksCore.{links-core}
+use Rattle.machine_laws.proofs.ReferencesCore.{references-core}
 use Rattle.machine_laws.proofs.DefaultsAside.{defaults-same}
 use Rattle.machine_laws.proofs.NamesKept.{names-changes, names-entered, names-taken, names-next, names-undone, names-cancelling, names-cancelled, names-failed, names-succeeded, names-telling, names-closed}
-use Rattle.machine_laws.proofs.LinksKept.{links-changes, links-entered, links-taken, links-next, links-undone, links-cancelling, links-cancelled, links-failed, links-succeeded, links-telling}
+use Rattle.machine_laws.proofs.ReferencesKept.{references-changes, references-entered, references-taken, references-next, references-undone, references-cancelling, references-cancelled, references-failed, references-succeeded, references-telling}
 use Rattle.machine_laws.proofs.DefaultsKept.{defaults-changes, defaults-entered, defaults-taken, defaults-next, defaults-undone, defaults-cancelling, defaults-cancelled, defaults-failed, defaults-succeeded, defaults-telling}
 use Rattle.machine_laws.proofs.SettingsKept.{settings-changes, settings-entered, settings-taken, settings-next, settings-undone, settings-cancelling, settings-cancelled, settings-failed, settings-succeeded, settings-telling, settings-closed}
 use Rattle.machine_laws.proofs.OperationsKept.{operations-changes, operations-entered, operations-taken, operations-next, operations-undone, operations-cancelling, operations-cancelled, operations-failed, operations-succeeded, operations-telling, operations-closed}
@@ -30,13 +30,13 @@ use Rattle.machine_laws.proofs.SharesKept.{shares-changes, shares-entered, share
 use Rattle.machine_laws.proofs.LimitsKept.{limits-changes, limits-entered, limits-taken, limits-next, limits-undone, limits-cancelling, limits-cancelled, limits-failed, limits-succeeded, limits-telling, limits-closed}
 use Rattle.machine_laws.proofs.BooksKept.{books-changes, books-entered, books-taken, books-next, books-undone, books-cancelling, books-cancelled, books-failed, books-succeeded, books-telling, books-closed}
 use Rattle.machine_laws.proofs.SizesKept.{sizes-changes, sizes-entered, sizes-taken, sizes-next, sizes-undone, sizes-cancelling, sizes-cancelled, sizes-failed, sizes-succeeded, sizes-telling, sizes-closed}
-use Rattle.machine_laws.proofs.LinksCore.{links-core}
+use Rattle.machine_laws.proofs.ReferencesCore.{references-core}
 use Rattle.machine_laws.proofs.DefaultsAside.{defaults-same}
 
 pub whole-changes : {s : State} {c : Command} {moment : ℕ} {cs : List RowChange} → IsAccepted s c moment (changes cs) → IsWhole (applied s cs)
 whole-changes h = record {
   names = names-changes h;
-  links = links-changes h;
+  references = references-changes h;
   defaults = defaults-changes h;
   settings = settings-changes h;
   operations = operations-changes h;
@@ -50,7 +50,7 @@ whole-changes h = record {
 pub whole-entered : {s : State} {c : Command} {moment : ℕ} {task : Task} → IsAccepted s c moment (starts task) → IsWhole (entered s task moment)
 whole-entered h = record {
   names = names-entered h;
-  links = links-entered h;
+  references = references-entered h;
   defaults = defaults-entered h;
   settings = settings-entered h;
   operations = operations-entered h;
@@ -65,7 +65,7 @@ pub whole-taken : (s : State) (o : Operation Task) (moment : ℕ) {call : HostCa
     → o.work.calls ≡ call ∷ rest → IsWhole (with_task o.number (handing_out o.work rest) (moved o.number Running moment s))
 whole-taken s o moment early h first calls = record {
   names = names-taken s o moment h first calls;
-  links = links-taken s o moment h first calls;
+  references = references-taken s o moment h first calls;
   defaults = defaults-taken s o moment h first calls;
   settings = settings-taken s o moment h first calls;
   operations = operations-taken s o moment early h first calls;
@@ -80,7 +80,7 @@ pub whole-next : (s : State) (o : Operation Task) {call : HostCall} {rest : List
     → IsWhole (with_task o.number (one_more_done o.work rest) s)
 whole-next s o l calls = record {
   names = names-next s o l calls;
-  links = links-next s o l calls;
+  references = references-next s o l calls;
   defaults = defaults-next s o l calls;
   settings = settings-next s o l calls;
   operations = operations-next s o l calls;
@@ -94,7 +94,7 @@ whole-next s o l calls = record {
 pub whole-undone : (s : State) (o : Operation Task) {call : HostCall} → IsLiveAs s o Cancelling → o.work.undo ≡ Some call → IsWhole (with_task o.number (undone o.work) s)
 whole-undone s o l undo = record {
   names = names-undone s o l undo;
-  links = links-undone s o l undo;
+  references = references-undone s o l undo;
   defaults = defaults-undone s o l undo;
   settings = settings-undone s o l undo;
   operations = operations-undone s o l undo;
@@ -109,7 +109,7 @@ pub whole-cancelling : (s : State) (o : Operation Task) (moment : ℕ) → momen
     → IsWhole (moved o.number Cancelling moment s)
 whole-cancelling s o moment early l may = record {
   names = names-cancelling s o moment l may;
-  links = links-cancelling s o moment l may;
+  references = references-cancelling s o moment l may;
   defaults = defaults-cancelling s o moment l may;
   settings = settings-cancelling s o moment l may;
   operations = operations-cancelling s o moment early l may;
@@ -124,7 +124,7 @@ pub whole-cancelled : (s : State) (o : Operation Task) (moment : ℕ) → moment
     → IsWhole (cancelled s o.number moment)
 whole-cancelled s o moment early h live = record {
   names = names-cancelled s o moment h live;
-  links = links-cancelled s o moment h live;
+  references = references-cancelled s o moment h live;
   defaults = defaults-cancelled s o moment h live;
   settings = settings-cancelled s o moment h live;
   operations = operations-cancelled s o moment early h live;
@@ -139,7 +139,7 @@ pub whole-failed : (s : State) (o : Operation Task) (why : OpFault) (done moment
     → IsWhole (failed s o why done moment)
 whole-failed s o why done moment early l = record {
   names = names-failed s o why done moment l;
-  links = links-failed s o why done moment l;
+  references = references-failed s o why done moment l;
   defaults = defaults-failed s o why done moment l;
   settings = settings-failed s o why done moment l;
   operations = operations-failed s o why done moment early l;
@@ -154,7 +154,7 @@ pub whole-succeeded : (s : State) (o : Operation Task) (moment : ℕ) → moment
     → IsWhole (succeeded s o moment)
 whole-succeeded s o moment early l none = record {
   names = names-succeeded s o moment l none;
-  links = links-succeeded s o moment l none;
+  references = references-succeeded s o moment l none;
   defaults = defaults-succeeded s o moment l none;
   settings = settings-succeeded s o moment l none;
   operations = operations-succeeded s o moment early l none;
@@ -168,7 +168,7 @@ whole-succeeded s o moment early l none = record {
 pub whole-telling : (s : State) (notices : List Untold) → IsWhole s → IsWhole (telling notices s)
 whole-telling s notices h = record {
   names = names-telling s notices h;
-  links = links-telling s notices h;
+  references = references-telling s notices h;
   defaults = defaults-telling s notices h;
   settings = settings-telling s notices h;
   operations = operations-telling s notices h;
@@ -182,7 +182,7 @@ whole-telling s notices h = record {
 pub whole-closed : (s : State) → IsWhole s → IsWhole (record s { closed = true })
 whole-closed s h = record {
   names = names-closed s h;
-  links = links-core s (record s { closed = true }) refl h.links;
+  references = references-core s (record s { closed = true }) refl h.references;
   defaults = defaults-same refl refl h.defaults;
   settings = settings-closed s h;
   operations = operations-closed s h;

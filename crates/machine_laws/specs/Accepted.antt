@@ -3,7 +3,7 @@ use Rattle.std.specs.Prelude.{◌≡◌, ℕ, ◌<◌, true, Some, None}
 use Rattle.size_values.specs.Moments.{moment_limit}
 use Rattle.operations.specs.declared.operation.Operation.{Operation}
 use Rattle.operations.specs.declared.status.Status.{Status}
-use Rattle.operations.specs.Kept.{live_at}
+use Rattle.operations.specs.OperationTable.{live_at}
 use Rattle.records.specs.Forms.{is_formed}
 use Rattle.records.specs.declared.commands.Command.{Command}
 use Rattle.row_machine.specs.machine.Task.{Task}

@@ -7,7 +7,7 @@ use Rattle.host_model.specs.declared.report.Report.{Report}
 use Rattle.instance_states.specs.Plans.{undo_of, name_of}
 use Rattle.operations.specs.declared.operation.Operation.{Operation}
 use Rattle.operations.specs.declared.status.Status.TheVariants as status
-use Rattle.operations.specs.Kept.{live_at}
+use Rattle.operations.specs.OperationTable.{live_at}
 use Rattle.records.specs.declared.commands.Command.{Command}
 use Rattle.records.specs.declared.commands.What.TheVariants as what
 use Rattle.records.specs.declared.replies.Reply.TheVariants as reply
@@ -17,7 +17,7 @@ use Rattle.row_machine.specs.declared.events.Answer.TheVariants as answer
 use Rattle.row_machine.specs.machine.Task.{Task}
 use Rattle.row_machine.specs.machine.State.{State}
 use Rattle.row_machine.specs.opening.Records.{rows_of}
-use Rattle.row_machine.specs.machine.Work.{undone}
+use Rattle.row_machine.specs.machine.Operations.{undone}
 use Rattle.row_machine.specs.machine.Accept.{After}
 use Rattle.row_machine.specs.machine.Step.{Outcome, step, well}
 use Rattle.row_machine.specs.facts.Whole.{IsWhole}

@@ -20,11 +20,11 @@ use Rattle.restrictions.specs.Policies.{policy_of}
 use Rattle.restrictions.specs.Forbids.{first_forbidden}
 use Rattle.project_limits.specs.Admission.{limit_on}
 use Rattle.project_limits.specs.Limits.{limits_of}
-use Rattle.project_limits.specs.Countable.{first_uncounted, volume_uncounted}
+use Rattle.project_limits.specs.Countable.{first_without_amount, volume_without_amount}
 use Rattle.operations.specs.declared.operation.Operation.{Operation}
 use Rattle.operations.specs.declared.status.Status.{Status}
 use Rattle.operations.specs.declared.status.Status.TheVariants as status
-use Rattle.operations.specs.Kept.{live_at, kept_at}
+use Rattle.operations.specs.OperationTable.{live_at, kept_at}
 use Rattle.records.specs.declared.rows.Project.{Project}
 use Rattle.records.specs.declared.rows.Profile.{Profile}
 use Rattle.records.specs.declared.rows.Volume.{Volume}
@@ -58,15 +58,16 @@ layers_of state instance =
     layers_by (profile_named state.profiles (home_of state.projects instance.project kind.Profile)) instance
 
 -- whether an instance, or a volume, of a project gives a number for each sum that the project limits
-abbrev pub IsCountable : State → Project → Instance → Type 0
-IsCountable state project instance =
+abbrev pub HasAmounts : State → Project → Instance → Type 0
+HasAmounts state project instance =
     instance.project ≡ project.name
-    → first_uncounted (limits_of project.config) instance.kind (has state instance).config (has state instance).devices
+    → first_without_amount (limits_of project.config) instance.kind (has state instance).config
+    (has state instance).devices
     ≡ None
 
-abbrev pub IsCountableVolume : Project → Volume → Type 0
-IsCountableVolume project volume = volume.project ≡ project.name
-    → volume_uncounted (limits_of project.config) volume.config ≡ None
+abbrev pub VolumeHasAmount : Project → Volume → Type 0
+VolumeHasAmount project volume = volume.project ≡ project.name
+    → volume_without_amount (limits_of project.config) volume.config ≡ None
 
 -- Each part of a project's usage, claims included, is at most the limit on it that the project sets, and so is the
 -- number of its networks. Each of its instances and volumes, also those that an operation is about to put, is
@@ -75,8 +76,8 @@ pub record KeepsLimits (state : State) (project : Project) : Type 0 where
   pub usage : (a_part : Part)
       → IfSome (limit_on a_part (limits_of project.config)) (λ limit. part a_part (usage_of state project.name) ≤ limit)
   pub networks : IfSome (limits_of project.config).networks (λ limit. networks_of state project.name ≤ limit)
-  pub instances : Each (IsCountable state project) (judged_instances state)
-  pub volumes : Each (IsCountableVolume project) (judged_volumes state)
+  pub instances : Each (HasAmounts state project) (judged_instances state)
+  pub volumes : Each (VolumeHasAmount project) (judged_volumes state)
 
 -- the policy of a project forbids nothing that its profile has, or that its instance has
 abbrev pub IsAllowedProfile : Project → Profile → Type 0

@@ -6,7 +6,7 @@ use Rattle.host_model.specs.declared.call.HostCall.{HostCall}
 use Rattle.operations.specs.declared.operation.Operation.{Operation}
 use Rattle.operations.specs.declared.operation.OpFault.{OpFault}
 use Rattle.operations.specs.declared.status.Status.TheVariants.{Running, Cancelling}
-use Rattle.operations.specs.Kept.{live_at}
+use Rattle.operations.specs.OperationTable.{live_at}
 use Rattle.records.specs.declared.commands.Command.{Command}
 use Rattle.records.specs.declared.commands.Target.{Target}
 use Rattle.records.specs.declared.notices.Untold.{Untold}
@@ -18,8 +18,9 @@ use Rattle.row_machine.specs.machine.Changes.{applied}
 use Rattle.row_machine.specs.machine.Plans.{changes, starts}
 use Rattle.row_machine.specs.shown.Notices.{telling}
 use Rattle.row_machine.specs.machine.Step.{first_pending}
-use Rattle.row_machine.specs.machine.Work.{entered, with_task, moved, handing_out, one_more_done, undone, cancelled}
-use Rattle.row_machine.specs.machine.Work.{failed, succeeded}
+use Rattle.row_machine.specs.machine.Operations.{entered, with_task, moved, handing_out, one_more_done, undone}
+use Rattle.row_machine.specs.machine.Operations.{cancelled}
+use Rattle.row_machine.specs.machine.Operations.{failed, succeeded}
 use Rattle.row_machine.specs.facts.Whole.{IsWhole}
 use Rattle.machine_laws.specs.Accepted.{IsAccepted, IsLiveAs}
 

@@ -3,7 +3,7 @@ use Rattle.std.specs.Prelude.{◌≡◌, ◌<◌, ℕ, List, [], ◌∷◌, Some
 use Rattle.size_values.specs.Moments.{moment_limit}
 use Rattle.record_keeper.specs.Entries.{IsOrderedEntries, after_changes}
 use Rattle.operations.specs.declared.operation.Operation.{Operation}
-use Rattle.operations.specs.Kept.{live_at}
+use Rattle.operations.specs.OperationTable.{live_at}
 use Rattle.records.specs.Forms.{is_formed}
 use Rattle.records.specs.declared.commands.Command.{Command}
 use Rattle.row_machine.specs.declared.changes.RowChange.{RowChange}
@@ -13,7 +13,7 @@ use Rattle.row_machine.specs.machine.Changes.{changed, applied}
 use Rattle.row_machine.specs.opening.Records.{records_of}
 use Rattle.row_machine.specs.machine.Plans.{changes, plan_of}
 use Rattle.row_machine.specs.machine.Rules.{broken}
-use Rattle.row_machine.specs.machine.Work.{success_changes, succeeded}
+use Rattle.row_machine.specs.machine.Operations.{success_changes, succeeded}
 use Rattle.row_machine.specs.facts.Whole.{IsWhole, AreNamed}
 use Rattle.machine_laws.specs.Entries.{entry_changes}
 

@@ -2,17 +2,17 @@
 use Rattle.std.specs.Prelude.{◌≡◌, [], map, false}
 use Rattle.plain_lists.specs.Members.{Each}
 use Rattle.size_values.specs.declared.kinds.Power.TheVariants.{Stopped}
-use Rattle.operations.specs.Kept.{no_operations}
+use Rattle.operations.specs.OperationTable.{no_operations}
 use Rattle.reservations.specs.Holdings.{no_books}
 use Rattle.records.specs.declared.rows.Instance.{Instance}
 use Rattle.row_codec.specs.Rows.{HasTypedParts}
-use Rattle.row_machine.specs.machine.State.{State, Standing}
+use Rattle.row_machine.specs.machine.State.{State, InstancePower}
 use Rattle.row_machine.specs.opening.Records.{records_of, rows_of}
 use Rattle.row_machine.specs.opening.Opening.{opened, opening_of}
 use Rattle.row_machine.specs.facts.Whole.{IsWhole}
 
 -- a stopped instance
-abbrev pub stopped : Instance → Standing
+abbrev pub stopped : Instance → InstancePower
 stopped instance = record { project = instance.project; name = instance.name; power = Stopped }
 
 -- a server that was ended and opened again: the same rows, every instance stopped, no operations and no notices

@@ -8,7 +8,7 @@ use Rattle.size_values.specs.Moments.{moment_limit}
 use Rattle.host_model.specs.declared.report.Report.{Report}
 use Rattle.operations.specs.declared.operation.Operation.{Operation}
 use Rattle.operations.specs.declared.status.Status.TheVariants as status
-use Rattle.operations.specs.Kept.{live_at}
+use Rattle.operations.specs.OperationTable.{live_at}
 use Rattle.row_machine.specs.declared.events.Event.{Event}
 use Rattle.row_machine.specs.declared.events.Event.TheVariants as event
 use Rattle.row_machine.specs.declared.events.Answer.{Answer}

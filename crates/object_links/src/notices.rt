@@ -2,10 +2,10 @@
 ghost use Rattle.std.specs.Prelude.{◌≡◌, IfOk};
 ghost use Rattle.row_machine.specs.shown.Notices.{life_notice, project_told, view_of};
 
-use crate::links::link_of;
+use crate::urls::url_of;
 use operations::Operation;
-use records::{Life, OpView, Target, Told, Untold};
-use row_machine::Work;
+use records::{EventBody, Life, OpView, Target, Untold};
+use row_machine::Task;
 use size_values::{NoMemory, ObjectKind, Text};
 use std::alloc::Global;
 
@@ -35,17 +35,17 @@ pub fn life_notice(
 ) -> Result<Untold, NoMemory>
     ensures { IfOk result (λ n. n ≡ life_notice moment project.now of.now action) }
 {
-    let source = link_of(alloc, project, of)?;
+    let source = url_of(alloc, project, of)?;
     let project = Text::from_text(alloc, project_told(project, of.kind))?;
     Ok(Untold {
         moment,
         project,
-        told: Told::Life { action, source },
+        body: EventBody::Life { action, source },
     })
 }
 
 /// How an operation is shown.
-pub fn view_of(alloc: Global, operation: &Operation<Work>) -> Result<OpView, NoMemory>
+pub fn view_of(alloc: Global, operation: &Operation<Task>) -> Result<OpView, NoMemory>
     ensures { IfOk result (λ v. v ≡ view_of operation.now) }
 {
     let project = operation.work.project.copy(alloc)?;

@@ -1,7 +1,7 @@
 //! What names a row.
 ghost use Rattle.std.specs.Prelude.{◌≡◌, [], IfOk};
 ghost use Rattle.records.specs.declared.rows.Row.TheVariants as row;
-ghost use Rattle.row_machine.specs.shown.Links.{target_of};
+ghost use Rattle.row_machine.specs.shown.Urls.{target_of};
 
 use records::{Row, Snapshot, Target, Volume};
 use size_values::{NoMemory, ObjectKind, Text};

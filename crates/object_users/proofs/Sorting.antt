@@ -17,7 +17,7 @@ use Rattle.plain_lists.proofs.Elements.{Each-none, Each-cons, Each-head, Each-ta
 use Rattle.plain_lists.proofs.PutsLemmas.{Each-puts, sum_by-Puts}
 use Rattle.plain_lists.proofs.EditLemmas.{inserted-Puts}
 use Rattle.row_machine.specs.machine.Rows.{text_before}
-use Rattle.row_machine.specs.shown.Links.{sorted}
+use Rattle.row_machine.specs.shown.Urls.{sorted}
 
 -- the order of texts
 pub texts-ranked : IsStrictWeakOrder text_before

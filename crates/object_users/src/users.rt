@@ -2,21 +2,25 @@
 ghost use Rattle.std.specs.Prelude.{◌≡◌, ◌++◌, [], IfOk, OnOk, map, filter};
 ghost use Rattle.records.specs.declared.rows.Row.TheVariants as row;
 ghost use Rattle.row_machine.specs.machine.Holders.{instance_uses, names_profile, profile_uses, volume_uses};
-ghost use Rattle.row_machine.specs.shown.Links.{sorted, target_of};
-ghost use Rattle.row_machine.specs.shown.Views.{links, rows_in, rows_using, used_by};
+ghost use Rattle.row_machine.specs.shown.Urls.{sorted, target_of};
+ghost use Rattle.row_machine.specs.shown.Views.{urls, rows_in, rows_using, used_by};
 
 use crate::at_home::rows_that_may_use;
 use crate::gathered::{add_instances, add_networks, add_profiles, add_volumes};
-use crate::row_links::{sorted_links, target_of};
 use crate::row_ref::RowRef;
+use crate::row_urls::{sorted_urls, target_of};
 use crate::uses::{instance_uses, names_profile, profile_uses, volume_uses};
 use records::{Instance, Profile, Target};
-use row_readings::{AnyRow, View, rows_at_home, rows_of};
+use row_readings::{AnyRow, StateRef, rows_at_home, rows_of};
 use size_values::{Boxed, NoMemory, ObjectKind, Seq, Text};
 use std::alloc::Global;
 
 /// The instances, networks, volumes and profiles of a project.
-fn rows_in<'x>(alloc: Global, view: &View<'x>, project: &str) -> Result<Vec<RowRef<'x>>, NoMemory>
+fn rows_in<'x>(
+    alloc: Global,
+    view: &StateRef<'x>,
+    project: &str,
+) -> Result<Vec<RowRef<'x>>, NoMemory>
     ensures { IfOk result (λ all. all.items ≡ rows_in view.now project.now) }
 {
     let mut all = Vec::new(alloc);
@@ -30,7 +34,7 @@ fn rows_in<'x>(alloc: Global, view: &View<'x>, project: &str) -> Result<Vec<RowR
 /// Those of these instances that name the profile of this home and name.
 fn naming_among<'x>(
     alloc: Global,
-    view: &View<'x>,
+    view: &StateRef<'x>,
     home: &str,
     profile: &str,
     rows: &'x [Boxed<Instance>],
@@ -53,7 +57,7 @@ fn naming_among<'x>(
 /// over.
 fn instances_naming<'x>(
     alloc: Global,
-    view: &View<'x>,
+    view: &StateRef<'x>,
     home: &str,
     profile: &str,
 ) -> Result<Vec<RowRef<'x>>, NoMemory>
@@ -67,7 +71,7 @@ fn instances_naming<'x>(
 /// Adds those of these instances that name the object.
 fn add_instances_among<'x>(
     alloc: Global,
-    view: &View<'x>,
+    view: &StateRef<'x>,
     home: &str,
     of: &Target,
     rows: &'x [Boxed<Instance>],
@@ -89,7 +93,7 @@ fn add_instances_among<'x>(
 /// Adds the instances that name the object. Those of projects that can't have its home are not gone over.
 fn add_using_instances<'x>(
     alloc: Global,
-    view: &View<'x>,
+    view: &StateRef<'x>,
     home: &str,
     of: &Target,
     all: &mut Vec<RowRef<'x>>,
@@ -103,7 +107,7 @@ fn add_using_instances<'x>(
 
 /// Adds those of these profiles that name the object.
 fn add_profiles_among<'x>(
-    view: &View<'x>,
+    view: &StateRef<'x>,
     home: &str,
     of: &Target,
     rows: &'x [Boxed<Profile>],
@@ -124,7 +128,7 @@ fn add_profiles_among<'x>(
 
 /// Adds the profiles that name the object. Those of projects that can't have its home are not gone over.
 fn add_using_profiles<'x>(
-    view: &View<'x>,
+    view: &StateRef<'x>,
     home: &str,
     of: &Target,
     all: &mut Vec<RowRef<'x>>,
@@ -137,7 +141,7 @@ fn add_using_profiles<'x>(
 }
 
 fn add_volumes_of<'x>(
-    view: &View<'x>,
+    view: &StateRef<'x>,
     of: &Target,
     all: &mut Vec<RowRef<'x>>,
 ) -> Result<(), NoMemory>
@@ -157,7 +161,7 @@ fn add_volumes_of<'x>(
 /// The volumes of a pool. Nothing else is used by volumes, so for it they are not gone over: a list
 /// of volumes with their users would cost the square of their number.
 fn add_using_volumes<'x>(
-    view: &View<'x>,
+    view: &StateRef<'x>,
     of: &Target,
     all: &mut Vec<RowRef<'x>>,
 ) -> Result<(), NoMemory>
@@ -179,7 +183,7 @@ fn add_using_volumes<'x>(
 /// The instances and profiles that name a network, pool or volume, and the volumes of a pool.
 fn rows_using<'x>(
     alloc: Global,
-    view: &View<'x>,
+    view: &StateRef<'x>,
     home: &str,
     of: &Target,
 ) -> Result<Vec<RowRef<'x>>, NoMemory>
@@ -192,56 +196,56 @@ fn rows_using<'x>(
     Ok(all)
 }
 
-/// The links of the rows that name a row, in byte order.
-fn links_using(
+/// The URLs of the rows that name a row, in byte order.
+fn urls_using(
     alloc: Global,
-    view: &View<'_>,
+    view: &StateRef<'_>,
     home: &str,
     row: &RowRef<'_>,
 ) -> Result<Seq<Text>, NoMemory>
-    ensures { IfOk result (λ ts. ts ≡ sorted (links (rows_using view.now home.now (target_of row.now)))) }
+    ensures { IfOk result (λ ts. ts ≡ sorted (urls (rows_using view.now home.now (target_of row.now)))) }
 {
     let of = target_of(alloc, row)?;
     let using = rows_using(alloc, view, home, &of);
     drop(of);
-    sorted_links(alloc, &using?)
+    sorted_urls(alloc, &using?)
 }
 
-/// The links of the rows of a project, in byte order.
-fn links_in(alloc: Global, view: &View<'_>, project: &str) -> Result<Seq<Text>, NoMemory>
-    ensures { IfOk result (λ ts. ts ≡ sorted (links (rows_in view.now project.now))) }
+/// The URLs of the rows of a project, in byte order.
+fn urls_in(alloc: Global, view: &StateRef<'_>, project: &str) -> Result<Seq<Text>, NoMemory>
+    ensures { IfOk result (λ ts. ts ≡ sorted (urls (rows_in view.now project.now))) }
 {
     let rows = rows_in(alloc, view, project)?;
-    sorted_links(alloc, &rows)
+    sorted_urls(alloc, &rows)
 }
 
-/// The links of the instances that name a profile, in byte order.
-fn links_naming(
+/// The URLs of the instances that name a profile, in byte order.
+fn urls_naming(
     alloc: Global,
-    view: &View<'_>,
+    view: &StateRef<'_>,
     home: &str,
     profile: &str,
 ) -> Result<Seq<Text>, NoMemory>
     ensures { IfOk result (λ ts. ts
-        ≡ sorted (links (map row.Instance (filter (names_profile view.now home.now profile.now) view.now.instances)))) }
+        ≡ sorted (urls (map row.Instance (filter (names_profile view.now home.now profile.now) view.now.instances)))) }
 {
     let rows = instances_naming(alloc, view, home, profile)?;
-    sorted_links(alloc, &rows)
+    sorted_urls(alloc, &rows)
 }
 
-/// The links of the users of a row, in byte order. Rows count, claims do not.
+/// The URLs of the users of a row, in byte order. Rows count, claims do not.
 #[tactic(auto, unfolding(row_machine::specs::shown::Views::used_by))]
-pub fn used_by(alloc: Global, view: &View<'_>, row: &RowRef<'_>) -> Result<Seq<Text>, NoMemory>
+pub fn used_by(alloc: Global, view: &StateRef<'_>, row: &RowRef<'_>) -> Result<Seq<Text>, NoMemory>
     ensures { IfOk result (λ ts. ts ≡ used_by view.now row.now) }
 {
     match row.row {
-        AnyRow::Project(project) => links_in(alloc, view, project.name.view()),
+        AnyRow::Project(project) => urls_in(alloc, view, project.name.view()),
         AnyRow::Profile(profile) => {
-            links_naming(alloc, view, profile.project.view(), profile.name.view())
+            urls_naming(alloc, view, profile.project.view(), profile.name.view())
         }
-        AnyRow::Network(network) => links_using(alloc, view, network.project.view(), row),
-        AnyRow::Pool(_) => links_using(alloc, view, "", row),
-        AnyRow::Volume(volume) => links_using(alloc, view, volume.project.view(), row),
+        AnyRow::Network(network) => urls_using(alloc, view, network.project.view(), row),
+        AnyRow::Pool(_) => urls_using(alloc, view, "", row),
+        AnyRow::Volume(volume) => urls_using(alloc, view, volume.project.view(), row),
         AnyRow::Instance(_) => Ok(Seq::new(alloc)),
         AnyRow::Snapshot(_) => Ok(Seq::new(alloc)),
     }

@@ -8,7 +8,7 @@ ghost use Rattle.row_machine.specs.machine.Holders.{volume_uses};
 use config_lists::Devices;
 use estate_rules::{names_network, names_pool, names_volume};
 use records::{Instance, Profile, Target, Volume};
-use row_readings::View;
+use row_readings::StateRef;
 use size_values::{NoMemory, ObjectKind, Text};
 use std::alloc::Global;
 
@@ -19,7 +19,7 @@ fn has_name(names: &[Text], profile: &str) -> bool
 }
 
 /// Whether an instance names the profile of this home and name.
-pub fn names_profile(view: &View<'_>, home: &str, profile: &str, row: &Instance) -> bool
+pub fn names_profile(view: &StateRef<'_>, home: &str, profile: &str, row: &Instance) -> bool
     ensures { result ≡ names_profile view.now home.now profile.now row.now }
 {
     view.profile_home(row.project.view()) == home && has_name(row.profiles.view(), profile)
@@ -27,7 +27,13 @@ pub fn names_profile(view: &View<'_>, home: &str, profile: &str, row: &Instance)
 
 /// Whether devices in a project name the object: a network or volume of this home, or a pool. The
 /// devices come first, as they are few, and the home is looked for among all projects.
-fn devices_name(view: &View<'_>, home: &str, of: &Target, project: &str, devices: &Devices) -> bool
+fn devices_name(
+    view: &StateRef<'_>,
+    home: &str,
+    of: &Target,
+    project: &str,
+    devices: &Devices,
+) -> bool
     ensures { result ≡ devices_name view.now home.now of.now project.now devices.now }
 {
     let name = of.name.view();
@@ -45,7 +51,7 @@ fn devices_name(view: &View<'_>, home: &str, of: &Target, project: &str, devices
 }
 
 /// A profile names what its own devices name.
-pub fn profile_uses(view: &View<'_>, home: &str, of: &Target, row: &Profile) -> bool
+pub fn profile_uses(view: &StateRef<'_>, home: &str, of: &Target, row: &Profile) -> bool
     ensures { result ≡ profile_uses view.now home.now of.now row.now }
 {
     devices_name(view, home, of, row.project.view(), &row.devices)
@@ -54,7 +60,7 @@ pub fn profile_uses(view: &View<'_>, home: &str, of: &Target, row: &Profile) -> 
 /// An instance names what its expanded devices name.
 pub fn instance_uses(
     alloc: Global,
-    view: &View<'_>,
+    view: &StateRef<'_>,
     home: &str,
     of: &Target,
     row: &Instance,

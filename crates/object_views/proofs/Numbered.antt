@@ -8,7 +8,7 @@ use Rattle.std.specs.Option.{option_to_list}
 use Rattle.row_readings.proofs.Totals.{read-next}
 use Rattle.plain_lists.specs.Edits.{inserted}
 use Rattle.operations.specs.declared.operation.Operation.{Operation}
-use Rattle.operations.specs.Kept.{by_number}
+use Rattle.operations.specs.OperationTable.{by_number}
 use Rattle.row_machine.specs.machine.Task.{Task}
 
 -- put after all, where it goes before none

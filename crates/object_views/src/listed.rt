@@ -8,13 +8,13 @@ use object_users::{
     add_volumes_in,
 };
 use records::Target;
-use row_readings::{View, row_of, rows_of};
+use row_readings::{StateRef, row_of, rows_of};
 use size_values::{NoMemory, ObjectKind};
 use std::alloc::Global;
 
 /// Adds the rows of a list.
 fn add_listed<'x>(
-    view: &View<'x>,
+    view: &StateRef<'x>,
     project: &str,
     of: &Target,
     all: &mut Vec<RowRef<'x>>,
@@ -47,7 +47,7 @@ fn add_listed<'x>(
 /// The rows of a list: of all projects or pools, of a home, of a pool in a home, of an instance.
 pub(crate) fn listed<'x>(
     alloc: Global,
-    view: &View<'x>,
+    view: &StateRef<'x>,
     project: &str,
     of: &Target,
 ) -> Result<Vec<RowRef<'x>>, NoMemory>
@@ -59,7 +59,7 @@ pub(crate) fn listed<'x>(
 }
 
 /// The row that the object of a path is, lent.
-pub(crate) fn lent_row<'x>(view: &View<'x>, project: &str, of: &Target) -> Option<RowRef<'x>>
+pub(crate) fn lent_row<'x>(view: &StateRef<'x>, project: &str, of: &Target) -> Option<RowRef<'x>>
     ensures { result ≡ row_of view.now project.now of.now }
 {
     match row_of(view, project, of) {

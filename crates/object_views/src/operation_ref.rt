@@ -1,11 +1,11 @@
 use operations::Operation;
-use row_machine::Work;
+use row_machine::Task;
 use std::marker::Model;
 
 /// A background operation, lent. Contracts see the operation.
 #[derive(Drop)]
 pub(crate) struct OperationRef<'a> {
-    pub(crate) operation: &'a Operation<Work>,
+    pub(crate) operation: &'a Operation<Task>,
 }
 
 impl<'a> Model for OperationRef<'a> {

@@ -3,7 +3,7 @@ ghost use Rattle.std.specs.Prelude.{◌≡◌, ◌++◌, IfOk, OnOk, map, filter
 ghost use Rattle.std.specs.List.{filter_map, position};
 ghost use Rattle.std.specs.Option.{option_to_list};
 ghost use Rattle.object_views.specs.Statuses.{has_status};
-ghost use Rattle.operations.specs.Kept.{by_number};
+ghost use Rattle.operations.specs.OperationTable.{by_number};
 ghost use Rattle.plain_lists.specs.Edits.{inserted};
 ghost use Rattle.row_machine.specs.shown.Notices.{view_of};
 ghost use Rattle.row_machine.specs.shown.Views.{by_status, if_any, one};
@@ -12,20 +12,20 @@ ghost use Rattle.row_machine.specs.shown.Views.{operation_view, operations_reply
 use crate::operation_ref::OperationRef;
 use object_links::view_of;
 use operations::{Operation, Status};
-use records::{OpView, Reply, View as Shown};
-use row_machine::Work;
-use row_readings::{View, kept_at};
+use records::{OpView, Reply, View};
+use row_machine::Task;
+use row_readings::{StateRef, kept_at};
 use size_values::{NoMemory, Seq};
 use std::alloc::Global;
 
 // ---- single operations
 
 /// The operation of a number, if it is kept.
-pub fn operation_reply(alloc: Global, view: &View<'_>, number: u64) -> Result<Reply, NoMemory>
+pub fn operation_reply(alloc: Global, view: &StateRef<'_>, number: u64) -> Result<Reply, NoMemory>
     ensures { IfOk result (λ r. r ≡ one (operation_view view.now number)) }
 {
     match kept_at(view, number) {
-        Some(operation) => Ok(Reply::One(Shown::Op(view_of(alloc, operation)?))),
+        Some(operation) => Ok(Reply::One(View::Op(view_of(alloc, operation)?))),
         None => Ok(Reply::Empty),
     }
 }
@@ -33,7 +33,7 @@ pub fn operation_reply(alloc: Global, view: &View<'_>, number: u64) -> Result<Re
 // ---- the kept operations in the order of their numbers
 
 fn add_operations<'x>(
-    operations: &'x [Operation<Work>],
+    operations: &'x [Operation<Task>],
     all: &mut Vec<OperationRef<'x>>,
 ) -> Result<(), NoMemory>
     ensures { OnOk result (all.new.items ≡ all.old.items ++ operations.now) }
@@ -45,7 +45,10 @@ fn add_operations<'x>(
 }
 
 /// All kept operations, those that live first.
-fn kept_operations<'x>(alloc: Global, view: &View<'x>) -> Result<Vec<OperationRef<'x>>, NoMemory>
+fn kept_operations<'x>(
+    alloc: Global,
+    view: &StateRef<'x>,
+) -> Result<Vec<OperationRef<'x>>, NoMemory>
     ensures { IfOk result (λ all. all.items ≡ view.now.operations.live ++ view.now.operations.ended) }
 {
     let mut all = Vec::new(alloc);
@@ -75,7 +78,7 @@ fn gap(operations: &[OperationRef<'_>], number: u64) -> usize
 
 fn insert_operation<'x>(
     all: &mut Vec<OperationRef<'x>>,
-    operation: &'x Operation<Work>,
+    operation: &'x Operation<Task>,
 ) -> Result<(), NoMemory>
     ensures { OnOk result (all.new.items
         ≡ inserted (λ o. nat_lt operation.now.number o.number) operation.now all.old.items) }
@@ -103,7 +106,7 @@ fn by_number<'x>(
 }
 
 /// The kept operations in the order of their numbers.
-fn numbered<'x>(alloc: Global, view: &View<'x>) -> Result<Vec<OperationRef<'x>>, NoMemory>
+fn numbered<'x>(alloc: Global, view: &StateRef<'x>) -> Result<Vec<OperationRef<'x>>, NoMemory>
     ensures { IfOk result (λ all. all.items ≡ by_number (view.now.operations.live ++ view.now.operations.ended)) }
 {
     let all = kept_operations(alloc, view)?;
@@ -155,7 +158,7 @@ fn with_status<'x>(
     Ok(all)
 }
 
-fn has_status(operation: &Operation<Work>, project: &str, status: Status) -> bool
+fn has_status(operation: &Operation<Task>, project: &str, status: Status) -> bool
     ensures { result ≡ has_status project.now status operation.now }
 {
     operation.work.project.view() == project
@@ -257,7 +260,7 @@ fn views_by_status(
 /// The kept operations of a project by each status, with their numbers.
 fn all_numbers(
     alloc: Global,
-    view: &View<'_>,
+    view: &StateRef<'_>,
     project: &str,
 ) -> Result<Seq<(Status, Seq<u64>)>, NoMemory>
     ensures { IfOk result (λ groups. groups ≡ by_status (λ o. o.number) view.now project.now) }
@@ -269,7 +272,7 @@ fn all_numbers(
 /// The kept operations of a project by each status, whole.
 fn all_views(
     alloc: Global,
-    view: &View<'_>,
+    view: &StateRef<'_>,
     project: &str,
 ) -> Result<Seq<(Status, Seq<OpView>)>, NoMemory>
     ensures { IfOk result (λ groups. groups ≡ by_status view_of view.now project.now) }
@@ -281,7 +284,7 @@ fn all_views(
 /// The kept operations of a project by their status, with numbers or whole.
 pub fn operations_reply(
     alloc: Global,
-    view: &View<'_>,
+    view: &StateRef<'_>,
     project: &str,
     recursion: bool,
 ) -> Result<Reply, NoMemory>

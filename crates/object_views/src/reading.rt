@@ -11,18 +11,18 @@ use crate::listed::{lent_row, listed};
 use crate::operations_shown::{operation_reply, operations_reply};
 use crate::row_views::{row_view, row_views};
 use crate::usage::usage_view;
-use object_users::{RowRef, links_of_rows};
-use records::{Instance, Reply, Target, View as Shown, What};
-use row_readings::{AnyRow, View, power_of};
+use object_users::{RowRef, urls_of_rows};
+use records::{Instance, Reply, Target, View, What};
+use row_readings::{AnyRow, StateRef, power_of};
 use size_values::{NoMemory, ObjectKind, Seq, Text};
 use std::alloc::Global;
 
 // ---- lists
 
-/// Rows by their links or whole.
+/// Rows by their URLs or whole.
 fn rows_reply(
     alloc: Global,
-    view: &View<'_>,
+    view: &StateRef<'_>,
     rows: &[RowRef<'_>],
     recursion: bool,
 ) -> Result<Reply, NoMemory>
@@ -32,15 +32,15 @@ fn rows_reply(
         let views = row_views(alloc, view, rows)?;
         Ok(Reply::Many(views))
     } else {
-        let links = links_of_rows(alloc, rows)?;
-        Ok(Reply::Links(links))
+        let urls = urls_of_rows(alloc, rows)?;
+        Ok(Reply::Links(urls))
     }
 }
 
-/// The rows of a list by their links or whole.
+/// The rows of a list by their URLs or whole.
 fn listed_reply(
     alloc: Global,
-    view: &View<'_>,
+    view: &StateRef<'_>,
     project: &str,
     of: &Target,
     recursion: bool,
@@ -54,7 +54,7 @@ fn listed_reply(
 /// A list, with recursion or without.
 fn list_reply(
     alloc: Global,
-    view: &View<'_>,
+    view: &StateRef<'_>,
     project: &str,
     of: &Target,
     recursion: bool,
@@ -76,7 +76,12 @@ fn list_reply(
 // ---- single objects
 
 /// A row that is asked for.
-fn get_reply(alloc: Global, view: &View<'_>, project: &str, of: &Target) -> Result<Reply, NoMemory>
+fn get_reply(
+    alloc: Global,
+    view: &StateRef<'_>,
+    project: &str,
+    of: &Target,
+) -> Result<Reply, NoMemory>
     ensures { IfOk result (λ r. r ≡ one (option_map (row_view view.now) (row_of view.now project.now of.now))) }
 {
     match lent_row(view, project, of) {
@@ -86,11 +91,11 @@ fn get_reply(alloc: Global, view: &View<'_>, project: &str, of: &Target) -> Resu
 }
 
 /// The status of an instance.
-fn power_reply(view: &View<'_>, row: &Instance) -> Reply
+fn power_reply(view: &StateRef<'_>, row: &Instance) -> Reply
     ensures { result ≡ one (option_map view_of_kind.Power (power_of view.now row.now.project row.now.name)) }
 {
     match power_of(view, row.project.view(), row.name.view()) {
-        Some(power) => Reply::One(Shown::Power(power)),
+        Some(power) => Reply::One(View::Power(power)),
         None => Reply::Empty,
     }
 }
@@ -98,7 +103,7 @@ fn power_reply(view: &View<'_>, row: &Instance) -> Reply
 /// The state of an instance or of a project.
 fn state_of_row(
     alloc: Global,
-    view: &View<'_>,
+    view: &StateRef<'_>,
     project: &str,
     row: &RowRef<'_>,
 ) -> Result<Reply, NoMemory>
@@ -118,7 +123,7 @@ fn state_of_row(
 /// The state of an instance or of a project that is asked for.
 fn state_reply(
     alloc: Global,
-    view: &View<'_>,
+    view: &StateRef<'_>,
     project: &str,
     of: &Target,
 ) -> Result<Reply, NoMemory>
@@ -137,19 +142,24 @@ fn state_reply(
 fn root(alloc: Global) -> Result<Reply, NoMemory>
     ensures { IfOk result (λ r. r ≡ reply.Links (codes "/1.0" ∷ [])) }
 {
-    let mut links = Seq::new(alloc);
-    links.push(Text::from_text(alloc, "/1.0")?)?;
-    Ok(Reply::Links(links))
+    let mut urls = Seq::new(alloc);
+    urls.push(Text::from_text(alloc, "/1.0")?)?;
+    Ok(Reply::Links(urls))
 }
 
 /// The answer of a read. Other commands answer nothing here.
 #[tactic(auto, unfolding(row_machine::specs::shown::Views::read))]
-pub fn read(alloc: Global, view: &View<'_>, project: &Text, what: &What) -> Result<Reply, NoMemory>
+pub fn read(
+    alloc: Global,
+    view: &StateRef<'_>,
+    project: &Text,
+    what: &What,
+) -> Result<Reply, NoMemory>
     ensures { IfOk result (λ r. r ≡ read view.now project.now what.now) }
 {
     match what {
         What::Root => root(alloc),
-        What::Server => Ok(Reply::One(Shown::Server)),
+        What::Server => Ok(Reply::One(View::Server)),
         What::List { of, recursion } => list_reply(alloc, view, project.view(), of, *recursion),
         What::Get { of } => get_reply(alloc, view, project.view(), of),
         What::State { of } => state_reply(alloc, view, project.view(), of),

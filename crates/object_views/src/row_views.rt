@@ -5,12 +5,12 @@ ghost use Rattle.row_machine.specs.machine.StandingRules.{power_of};
 ghost use Rattle.row_machine.specs.shown.Views.{instance_view, row_view};
 
 use object_users::{RowRef, used_by};
-use records::{Instance, View as Shown};
-use row_readings::{AnyRow, View, power_of};
+use records::{Instance, View};
+use row_readings::{AnyRow, StateRef, power_of};
 use size_values::{NoMemory, Power, Seq};
 use std::alloc::Global;
 
-fn shown_power(view: &View<'_>, row: &Instance) -> Power
+fn shown_power(view: &StateRef<'_>, row: &Instance) -> Power
     ensures { result ≡ unwrap_or (power_of view.now row.now.project row.now.name) power_of_kind.Stopped }
 {
     match power_of(view, row.project.view(), row.name.view()) {
@@ -20,12 +20,12 @@ fn shown_power(view: &View<'_>, row: &Instance) -> Power
 }
 
 /// An instance with what it has and its status.
-fn instance_view(alloc: Global, view: &View<'_>, row: &Instance) -> Result<Shown, NoMemory>
+fn instance_view(alloc: Global, view: &StateRef<'_>, row: &Instance) -> Result<View, NoMemory>
     ensures { IfOk result (λ v. v ≡ instance_view view.now row.now) }
 {
     let power = shown_power(view, row);
     let (expanded, row) = both(view.expansion(alloc, row), row.copy(alloc))?;
-    Ok(Shown::Instance {
+    Ok(View::Instance {
         row,
         config: expanded.config,
         devices: expanded.devices,
@@ -46,41 +46,45 @@ fn both<A: Drop, B: Drop>(
 }
 
 /// How a row is shown.
-pub(crate) fn row_view(alloc: Global, view: &View<'_>, row: &RowRef<'_>) -> Result<Shown, NoMemory>
+pub(crate) fn row_view(
+    alloc: Global,
+    view: &StateRef<'_>,
+    row: &RowRef<'_>,
+) -> Result<View, NoMemory>
     ensures { IfOk result (λ v. v ≡ row_view view.now row.now) }
 {
     match row.row {
         AnyRow::Project(project) => {
             let (project, users) = both(project.copy(alloc), used_by(alloc, view, row))?;
-            Ok(Shown::Project(project, users))
+            Ok(View::Project(project, users))
         }
         AnyRow::Profile(profile) => {
             let (profile, users) = both(profile.copy(alloc), used_by(alloc, view, row))?;
-            Ok(Shown::Profile(profile, users))
+            Ok(View::Profile(profile, users))
         }
         AnyRow::Network(network) => {
             let (network, users) = both(network.copy(alloc), used_by(alloc, view, row))?;
-            Ok(Shown::Network(network, users))
+            Ok(View::Network(network, users))
         }
         AnyRow::Pool(pool) => {
             let (pool, users) = both(pool.copy(alloc), used_by(alloc, view, row))?;
-            Ok(Shown::Pool(pool, users))
+            Ok(View::Pool(pool, users))
         }
         AnyRow::Volume(volume) => {
             let (volume, users) = both(volume.copy(alloc), used_by(alloc, view, row))?;
-            Ok(Shown::Volume(volume, users))
+            Ok(View::Volume(volume, users))
         }
         AnyRow::Instance(instance) => instance_view(alloc, view, instance),
-        AnyRow::Snapshot(snapshot) => Ok(Shown::Snapshot(snapshot.copy(alloc)?)),
+        AnyRow::Snapshot(snapshot) => Ok(View::Snapshot(snapshot.copy(alloc)?)),
     }
 }
 
 /// How rows are shown.
 pub(crate) fn row_views(
     alloc: Global,
-    view: &View<'_>,
+    view: &StateRef<'_>,
     rows: &[RowRef<'_>],
-) -> Result<Seq<Shown>, NoMemory>
+) -> Result<Seq<View>, NoMemory>
     ensures { IfOk result (λ vs. vs ≡ map (row_view view.now) rows.now) }
 {
     let mut views = Seq::new(alloc);

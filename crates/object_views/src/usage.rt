@@ -6,8 +6,8 @@ ghost use Rattle.records.specs.declared.replies.LimitKeyName.TheVariants as line
 ghost use Rattle.row_machine.specs.shown.Views.{line_key, usage_view};
 
 use project_limits::{Limits, limits_of};
-use records::{LimitKeyName, Project, UsageLine, View as Shown};
-use row_readings::{View, rows_of, usage_of};
+use records::{LimitKeyName, Project, UsageLine, View};
+use row_readings::{StateRef, rows_of, usage_of};
 use size_values::{Amounts, NoMemory, Seq};
 use std::alloc::Global;
 
@@ -74,14 +74,14 @@ fn add(
 #[tactic(auto, unfolding(row_machine::specs::shown::Views::usage_view, row_machine::specs::machine::Usage::usage_of, row_machine::specs::machine::Usage::networks_of))]
 pub(crate) fn usage_view(
     alloc: Global,
-    view: &View<'_>,
+    view: &StateRef<'_>,
     project: &Project,
-) -> Result<Shown, NoMemory>
+) -> Result<View, NoMemory>
     ensures { IfOk result (λ v. v ≡ usage_view view.now project.now) }
 {
     let limits = limits_of(&project.config);
     let used = usage_of(alloc, view, project.name.view())?;
     let networks = rows_of(view.networks, project.name.view()).len() as u128;
     let lines = usage_lines(alloc, &limits, &used, networks)?;
-    Ok(Shown::Usage(lines))
+    Ok(View::Usage(lines))
 }

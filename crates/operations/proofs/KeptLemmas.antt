@@ -23,7 +23,7 @@ use Rattle.operations.specs.declared.operation.OpFault.{OpFault}
 use Rattle.operations.specs.declared.status.Status.{Status}
 use Rattle.operations.specs.declared.status.Status.TheVariants as status
 use Rattle.operations.specs.Statuses.{is_live, is_pending}
-use Rattle.operations.specs.Kept.{Kept, has_number, live_at, kept_at, live_status, first_pending_of, no_operations, entered, moved, with_work, ends}
+use Rattle.operations.specs.OperationTable.{OperationTable, has_number, live_at, kept_at, live_status, first_pending_of, no_operations, entered, moved, with_work, ends}
 use Rattle.operations.specs.Facts.{AreInOrder, AreNumbered, AreKept}
 
 -- numbers of one more, one fewer, and one in place of another
@@ -112,7 +112,7 @@ AreKept-none = record {
   few_ended = omega arith;
 }
 
-pub AreKept-entered : {W : Type 0} (may : Bool) (work : W) (moment : ℕ) {k : Kept W} → length k.live < most_live → k.next < number_limit
+pub AreKept-entered : {W : Type 0} (may : Bool) (work : W) (moment : ℕ) {k : OperationTable W} → length k.live < most_live → k.next < number_limit
     → moment < moment_limit → AreKept k → AreKept (entered may work moment k)
 AreKept-entered {W} may work moment {k} room number moment_is h = record {
   all_live = Each-push (λ (o : Operation W). is_live o.status ≡ true) h.all_live refl;
@@ -135,7 +135,7 @@ AreKept-entered {W} may work moment {k} room number moment_is h = record {
   }
 
 -- a change of the live operation of a number that leaves its number and keeps a live status and moments
-AreKept-changed : {W : Type 0} (n : ℕ) (f : Operation W → Operation W) {k : Kept W} → IsSome (live_at k n)
+AreKept-changed : {W : Type 0} (n : ℕ) (f : Operation W → Operation W) {k : OperationTable W} → IsSome (live_at k n)
     → ((o : Operation W) → (f o).number ≡ o.number)
     → ((o : Operation W) → is_live o.status ≡ true → is_live (f o).status ≡ true)
     → ((o : Operation W) → (o.created < moment_limit) × (o.updated < moment_limit) → ((f o).created < moment_limit) × ((f o).updated < moment_limit))
@@ -156,12 +156,12 @@ AreKept-changed {W} n f {k} some keeps stays moment h = at (live_at k n) refl so
         few_ended = h.few_ended;
       }
 
-pub AreKept-moved : {W : Type 0} (n : ℕ) (st : Status) (moment : ℕ) {k : Kept W} → IsSome (live_at k n)
+pub AreKept-moved : {W : Type 0} (n : ℕ) (st : Status) (moment : ℕ) {k : OperationTable W} → IsSome (live_at k n)
     → is_live st ≡ true → moment < moment_limit → AreKept k → AreKept (moved n st moment k)
 AreKept-moved {W} n st moment some live moment_is h =
     AreKept-changed n (λ (o : Operation W). record o { status = st; updated = moment }) some (λ o. refl) (λ o is. live) (λ o m. (m.0, moment_is)) h
 
-pub AreKept-with_work : {W : Type 0} (n : ℕ) (work : W) {k : Kept W} → IsSome (live_at k n) → AreKept k → AreKept (with_work n work k)
+pub AreKept-with_work : {W : Type 0} (n : ℕ) (work : W) {k : OperationTable W} → IsSome (live_at k n) → AreKept k → AreKept (with_work n work k)
 AreKept-with_work {W} n work some h =
     AreKept-changed n (λ (o : Operation W). record o { work = work }) some (λ o. refl) (λ o is. is) (λ o m. m) h
 
@@ -177,7 +177,7 @@ pub end-Puts : {W : Type 0} (n : ℕ) (st : Status) (why : OpFault) (moment : �
 end-Puts n st why moment o live ended is =
     (Puts-left ended (dropped-Puts (has_number n) o live is), Puts-right (dropped (has_number n) live) (Puts-push ended))
 
-pub AreKept-ends : {W : Type 0} (n : ℕ) (st : Status) (why : OpFault) (moment : ℕ) {k : Kept W} → IsSome (live_at k n)
+pub AreKept-ends : {W : Type 0} (n : ℕ) (st : Status) (why : OpFault) (moment : ℕ) {k : OperationTable W} → IsSome (live_at k n)
     → is_live st ≡ false → moment < moment_limit → AreKept k → AreKept (ends n st why moment k)
 AreKept-ends {W} n st why moment {k} some over moment_is h = at (live_at k n) refl some where
   Goal : Option (Operation W) → Type 0
@@ -206,7 +206,7 @@ AreKept-ends {W} n st why moment {k} some over moment_is h = at (live_at k n) re
 -- what a look-up finds
 
 -- a kept operation that is live is the live one of its number
-pub live-from_kept : {W : Type 0} (k : Kept W) (n : ℕ) (o : Operation W) → AreKept k → kept_at k n ≡ Some o → is_live o.status ≡ true → live_at k n ≡ Some o
+pub live-from_kept : {W : Type 0} (k : OperationTable W) (n : ℕ) (o : Operation W) → AreKept k → kept_at k n ≡ Some o → is_live o.status ≡ true → live_at k n ≡ Some o
 live-from_kept {W} k n o h e live = at (live_at k n) refl where
   split : kept_at k n ≡ option_or (live_at k n) (find (has_number n) k.ended)
   split = find-append (has_number n) k.live k.ended
@@ -218,7 +218,7 @@ live-from_kept {W} k n o h e live = at (live_at k n) refl where
       absurd (false≢true (sym (h.all_ended.at o (find-some (has_number n) k.ended o late).0) ∙ live))
 
 -- the first that waits is Pending
-pub pending-first : {W : Type 0} (k : Kept W) (n : ℕ) → AreKept k → first_pending_of k ≡ Some n → live_status k n ≡ Some status.Pending
+pub pending-first : {W : Type 0} (k : OperationTable W) (n : ℕ) → AreKept k → first_pending_of k ≡ Some n → live_status k n ≡ Some status.Pending
 pending-first {W} k n h e = at (find (λ (o : Operation W). is_pending o.status) k.live) refl e where
   pending : (st : Status) → is_pending st ≡ true → st ≡ status.Pending
   pending status.Pending is = refl
@@ -241,12 +241,12 @@ pending-first {W} k n h e = at (find (λ (o : Operation W). is_pending o.status)
 
 -- the same, of a look-up's answer
 
-pub live-found : {W : Type 0} (k : Kept W) (n : ℕ) (r : Option (Bor (Operation W))) → AreKept k → option_copied r ≡ kept_at k n
+pub live-found : {W : Type 0} (k : OperationTable W) (n : ℕ) (r : Option (Bor (Operation W))) → AreKept k → option_copied r ≡ kept_at k n
     → IfSome r (λ o. is_live o.now.status ≡ true → live_at k n ≡ Some o.now)
 live-found k n None h e = tt
 live-found k n (Some o) h e = λ live. live-from_kept k n o.now h (sym e) live
 
-pub pending-found : {W : Type 0} (k : Kept W) (r : Option ℕ) → AreKept k → r ≡ first_pending_of k
+pub pending-found : {W : Type 0} (k : OperationTable W) (r : Option ℕ) → AreKept k → r ≡ first_pending_of k
     → IfSome r (λ n. live_status k n ≡ Some status.Pending)
 pending-found k None h e = tt
 pending-found k (Some n) h e = pending-first k n h (sym e)

@@ -24,7 +24,7 @@ use Rattle.operations.specs.declared.status.Status.{Status}
 use Rattle.operations.specs.declared.status.Status.TheVariants as status
 use Rattle.operations.specs.declared.faults.CancelFault.TheVariants.{Unknown}
 use Rattle.operations.specs.Statuses.{is_live, cancel_of}
-use Rattle.operations.specs.Kept.{Kept, has_number, by_number, live_at, live_status, kept_at, ends, cancel_answer}
+use Rattle.operations.specs.OperationTable.{OperationTable, has_number, by_number, live_at, live_status, kept_at, ends, cancel_answer}
 use Rattle.operations.specs.Facts.{AreKept}
 use Rattle.operations.specs.Inside.{rising, numbers_of, kept_in, AreSlots}
 use Rattle.operations.proofs.KeptLemmas.{AreKept-ends, ended_by, end-Puts}
@@ -143,7 +143,7 @@ numbers-forgotten {W} live (e ∷ rest) ns distinct few is = at (length (e ∷ r
       is ∙ ap (λ n. numbers_of (live ++ drop n (e ∷ rest))) (sym none)
 
 -- what holds of the fields, said of the parts
-pub AreSlots-are : {W : Type 0} (s : Inside W) (k : Kept W) → s.live.items ≡ k.live → s.ended.items ≡ k.ended → s.next ≡ k.next
+pub AreSlots-are : {W : Type 0} (s : Inside W) (k : OperationTable W) → s.live.items ≡ k.live → s.ended.items ≡ k.ended → s.next ≡ k.next
     → AreKept k → s.numbers.items ≡ numbers_of (k.live ++ k.ended)
     → most_live ≤ vec_capacity s.live → most_ended ≤ vec_capacity s.ended → most_live + most_ended ≤ vec_capacity s.numbers → AreSlots s
 AreSlots-are {W} s k live ended next h listed room_live room_ended room_numbers = record {
@@ -155,7 +155,7 @@ AreSlots-are {W} s k live ended next h listed room_live room_ended room_numbers 
 }
 
 -- a change that leaves the number leaves the index
-pub numbers-changed : {W : Type 0} (n : ℕ) (f : Operation W → Operation W) (k : Kept W) → ((o : Operation W) → (f o).number ≡ o.number)
+pub numbers-changed : {W : Type 0} (n : ℕ) (f : Operation W → Operation W) (k : OperationTable W) → ((o : Operation W) → (f o).number ≡ o.number)
     → numbers_of (changed_first (has_number n) f k.live ++ k.ended) ≡ numbers_of (k.live ++ k.ended)
 numbers-changed n f k keeps = ap rising
     (map-append (λ o. o.number) (changed_first (has_number n) f k.live) k.ended
@@ -207,7 +207,7 @@ AreSlots-ended {W} n st why moment o s now h found over moment_is live ended num
 -- what a cancel that is not refused says of the operation
 
 -- it is live
-pub cancel-live : {W : Type 0} (k : Kept W) (n : ℕ) (now : Status) → AreKept k → cancel_answer (kept_at k n) ≡ Ok now → IsSome (live_at k n)
+pub cancel-live : {W : Type 0} (k : OperationTable W) (n : ℕ) (now : Status) → AreKept k → cancel_answer (kept_at k n) ≡ Ok now → IsSome (live_at k n)
 cancel-live {W} k n now h accepted = at (live_at k n) refl (find (has_number n) k.ended) refl where
   refused : (may : Bool) (st : Status) → is_live st ≡ false → cancel_of may st ≡ Ok now → ⊥
   refused may status.Pending over is = cc
@@ -264,7 +264,7 @@ cancel-moves {W} o status.Failure e other = never o e where
   never None is = cc
   never (Some x) is = by x.may_cancel x.status is
 
-pub live-status : {W : Type 0} (k : Kept W) (n : ℕ) (st : Status) → live_status k n ≡ Some st → IsSome (live_at k n)
+pub live-status : {W : Type 0} (k : OperationTable W) (n : ℕ) (st : Status) → live_status k n ≡ Some st → IsSome (live_at k n)
 live-status {W} k n st e = at (live_at k n) e where
   at : (o : Option (Operation W)) → option_map (λ (x : Operation W). x.status) o ≡ Some st → IsSome o
   at None is = cc

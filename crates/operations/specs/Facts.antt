@@ -4,7 +4,7 @@ use Rattle.size_values.specs.Moments.{moment_limit}
 use Rattle.operations.specs.Limits.{most_live, most_ended, number_limit}
 use Rattle.operations.specs.declared.operation.Operation.{Operation}
 use Rattle.operations.specs.Statuses.{is_live}
-use Rattle.operations.specs.Kept.{Kept}
+use Rattle.operations.specs.OperationTable.{OperationTable}
 
 -- the operations stand in the order of their numbers
 abbrev pub AreInOrder : {W : Type 0} → List (Operation W) → Type 0
@@ -21,7 +21,7 @@ pub record AreNumbered {W : Type 0} (operations : List (Operation W)) (next : �
       operations
 
 -- what is true of the kept operations at all times
-pub record AreKept {W : Type 0} (kept : Kept W) : Type 0 where
+pub record AreKept {W : Type 0} (kept : OperationTable W) : Type 0 where
   pub all_live : Each (λ (operation : Operation W). is_live operation.status ≡ true) kept.live
   pub all_ended : Each (λ (operation : Operation W). is_live operation.status ≡ false) kept.ended
   pub in_order : AreInOrder kept.live

@@ -3,7 +3,7 @@ use Rattle.plain_lists.specs.Edits.{inserted}
 use Rattle.operations.specs.Limits.{most_live, most_ended}
 use Rattle.operations.specs.declared.operation.Operation.{Operation}
 use Rattle.operations.specs.declared.slots.Slots.TheInside.{Inside}
-use Rattle.operations.specs.Kept.{Kept}
+use Rattle.operations.specs.OperationTable.{OperationTable}
 use Rattle.operations.specs.Facts.{AreKept}
 
 -- the numbers in rising order
@@ -16,7 +16,7 @@ abbrev pub numbers_of : {W : Type 0} → List (Operation W) → List ℕ
 numbers_of operations = rising (map (λ operation. operation.number) operations)
 
 -- what contracts see
-abbrev pub kept_in : {W : Type 0} → Inside W → Kept W
+abbrev pub kept_in : {W : Type 0} → Inside W → OperationTable W
 kept_in slots = record { live = slots.live.items; ended = slots.ended.items; next = slots.next }
 
 -- the index lists the numbers of all, and there is room for all that may come

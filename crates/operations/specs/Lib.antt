@@ -1,5 +1,5 @@
 pub mod Limits
 pub mod Statuses
-pub mod Kept
+pub mod OperationTable
 pub mod Facts
 pub mod Inside

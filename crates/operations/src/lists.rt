@@ -4,7 +4,7 @@ ghost use Rattle.std.specs.Option.{option_map};
 ghost use Rattle.std.specs.List.{find, position};
 ghost use Rattle.plain_lists.specs.Edits.{changed_first, dropped};
 ghost use Rattle.plain_lists.specs.Rings.{keep_last};
-ghost use Rattle.operations.specs.Kept.{has_number};
+ghost use Rattle.operations.specs.OperationTable.{has_number};
 ghost use Rattle.operations.specs.Limits.{most_ended};
 
 use crate::limits::ENDED_LIMIT;

@@ -4,9 +4,11 @@ ghost use Rattle.std.specs.Option.{option_copied, option_map, option_map_or};
 ghost use Rattle.std.specs.List.{find, position};
 ghost use Rattle.plain_lists.specs.Edits.{dropped};
 ghost use Rattle.operations.specs.Statuses.{is_live, is_pending, cancel_of};
-ghost use Rattle.operations.specs.Kept.{no_operations, has_number, live_at, kept_at, live_status, first_pending_of};
-ghost use Rattle.operations.specs.Kept.{by_number, enter_answer, after_enter, with_work, moved, ends, cancel_answer};
-ghost use Rattle.operations.specs.Kept.{after_cancel};
+ghost use Rattle.operations.specs.OperationTable.{no_operations, has_number, live_at, kept_at, live_status};
+ghost use Rattle.operations.specs.OperationTable.{first_pending_of};
+ghost use Rattle.operations.specs.OperationTable.{by_number, enter_answer, after_enter, with_work, moved, ends};
+ghost use Rattle.operations.specs.OperationTable.{cancel_answer};
+ghost use Rattle.operations.specs.OperationTable.{after_cancel};
 ghost use Rattle.operations.specs.Facts.{AreKept};
 ghost use Rattle.size_values.specs.Moments.{moment_limit};
 ghost use Rattle.operations.specs.declared.status.Status.TheVariants as status;
@@ -32,9 +34,9 @@ pub struct Slots<W> {
 }
 
 impl<W> Model for Slots<W> {
-    ghost use Rattle.operations.specs.Kept.{Kept};
+    ghost use Rattle.operations.specs.OperationTable.{OperationTable};
 
-    ghost Value = { Kept W };
+    ghost Value = { OperationTable W };
 
     ghost use Rattle.operations.specs.Inside.{kept_in, AreSlots};
 

@@ -3,17 +3,17 @@ ghost use Rattle.std.specs.Prelude.{◌≡◌, [], IfOk, map};
 ghost use Rattle.std.specs.Option.{option_map_or, option_to_list};
 ghost use Rattle.row_machine.specs.declared.changes.RowChange.TheVariants as change;
 ghost use Rattle.row_machine.specs.machine.Claims.{claimed_instance};
-ghost use Rattle.row_machine.specs.machine.Work.{renames_instance, success_changes};
+ghost use Rattle.row_machine.specs.machine.Operations.{renames_instance, success_changes};
 
 use crate::removals::{removes_instance, removes_snapshot};
 use crate::renames::renames_instance;
-use row_machine::{RowChange, Work};
-use row_readings::{View, claimed_instance};
+use row_machine::{RowChange, Task};
+use row_readings::{StateRef, claimed_instance};
 use size_values::{Action, Deed, NoMemory, Seq};
 use std::alloc::Global;
 
 /// The claimed row is put, where there is one.
-fn puts_claim(alloc: Global, work: &Work) -> Result<Seq<RowChange>, NoMemory>
+fn puts_claim(alloc: Global, work: &Task) -> Result<Seq<RowChange>, NoMemory>
     ensures { IfOk result (λ cs. cs ≡ map change.Put (option_to_list work.now.claim)) }
 {
     let mut changes = Seq::new(alloc);
@@ -25,7 +25,11 @@ fn puts_claim(alloc: Global, work: &Work) -> Result<Seq<RowChange>, NoMemory>
 }
 
 /// The claimed instance takes the place of the target, where one is claimed.
-fn renames_target(alloc: Global, view: &View<'_>, work: &Work) -> Result<Seq<RowChange>, NoMemory>
+fn renames_target(
+    alloc: Global,
+    view: &StateRef<'_>,
+    work: &Task,
+) -> Result<Seq<RowChange>, NoMemory>
     ensures { IfOk result (λ cs. cs ≡
         option_map_or (renames_instance view.now work.now) (claimed_instance work.now) []) }
 {
@@ -38,8 +42,8 @@ fn renames_target(alloc: Global, view: &View<'_>, work: &Work) -> Result<Seq<Row
 /// The changes of rows at the success of an operation, in their order.
 pub fn success_changes(
     alloc: Global,
-    view: &View<'_>,
-    work: &Work,
+    view: &StateRef<'_>,
+    work: &Task,
 ) -> Result<Seq<RowChange>, NoMemory>
     ensures { IfOk result (λ cs. cs ≡ success_changes view.now work.now) }
 {

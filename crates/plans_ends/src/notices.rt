@@ -1,16 +1,16 @@
 //! The notices of an operation: what its success tells, and how it is shown.
 ghost use Rattle.std.specs.Prelude.{◌≡◌, [], ◌∷◌, ◌++◌, IfOk, OnOk, map};
 ghost use Rattle.std.specs.Option.{option_copied, option_map_or, option_to_list};
-ghost use Rattle.records.specs.declared.notices.Told.TheVariants as told_of;
+ghost use Rattle.records.specs.declared.notices.EventBody.TheVariants as body;
 ghost use Rattle.row_machine.specs.shown.Notices.{action_life, deed_lives};
 ghost use Rattle.row_machine.specs.shown.Notices.{life_notice, object_told, success_notices};
 ghost use Rattle.row_machine.specs.shown.Notices.{view_of};
-ghost use Rattle.row_machine.specs.shown.Links.{target_of};
+ghost use Rattle.row_machine.specs.shown.Urls.{target_of};
 
 use object_links::{life_notice, target_of, view_of};
 use operations::Operation;
-use records::{Life, Row, Target, Told, Untold};
-use row_machine::Work;
+use records::{EventBody, Life, Row, Target, Untold};
+use row_machine::Task;
 use size_values::{Action, Deed, NoMemory, Seq};
 use std::alloc::Global;
 
@@ -59,7 +59,7 @@ fn claim_told(alloc: Global, claim: Option<&Row>, target: &Target) -> Result<Tar
 }
 
 /// What the success of an operation tells of: after a rename the claimed row, else the target.
-fn object_told(alloc: Global, work: &Work) -> Result<Target, NoMemory>
+fn object_told(alloc: Global, work: &Task) -> Result<Target, NoMemory>
     ensures { IfOk result (λ t. t ≡ object_told work.now) }
 {
     match work.deed {
@@ -111,7 +111,7 @@ fn notices_of(
 }
 
 /// The lifecycle events of an operation that succeeds, in their order. The moment is in seconds since 1970.
-pub fn success_notices(alloc: Global, work: &Work, moment: u64) -> Result<Seq<Untold>, NoMemory>
+pub fn success_notices(alloc: Global, work: &Task, moment: u64) -> Result<Seq<Untold>, NoMemory>
     ensures { IfOk result (λ ns. ns ≡ success_notices work.now moment) }
 {
     let of = object_told(alloc, work)?;
@@ -123,17 +123,17 @@ pub fn success_notices(alloc: Global, work: &Work, moment: u64) -> Result<Seq<Un
 /// The event that shows an operation as it now stands. The moment is in seconds since 1970.
 pub fn operation_notice(
     alloc: Global,
-    operation: &Operation<Work>,
+    operation: &Operation<Task>,
     moment: u64,
 ) -> Result<Untold, NoMemory>
     ensures { IfOk result (λ n. n ≡
-        record { moment = moment; project = operation.now.work.project; told = told_of.Op (view_of operation.now) }) }
+        record { moment = moment; project = operation.now.work.project; body = body.Op (view_of operation.now) }) }
 {
     let project = operation.work.project.copy(alloc)?;
     let shown = view_of(alloc, operation)?;
     Ok(Untold {
         moment,
         project,
-        told: Told::Op(shown),
+        body: EventBody::Op(shown),
     })
 }

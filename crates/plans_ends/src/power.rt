@@ -1,16 +1,16 @@
 //! The status of an instance after a deed.
 ghost use Rattle.std.specs.Prelude.{◌≡◌};
 ghost use Rattle.row_machine.specs.machine.Deeds.{breaks_instance};
-ghost use Rattle.row_machine.specs.machine.Work.{power_after};
+ghost use Rattle.row_machine.specs.machine.Operations.{power_after};
 
 use instance_states::after;
-use row_machine::Work;
-use row_readings::{View, power_of};
+use row_machine::Task;
+use row_readings::{StateRef, power_of};
 use size_values::{Deed, Power};
 
 /// The status that the target of an operation has after its success, where the deed is a change of state that the
 /// present status allows.
-pub fn power_after(view: &View<'_>, work: &Work) -> Option<Power>
+pub fn power_after(view: &StateRef<'_>, work: &Task) -> Option<Power>
     ensures { result ≡ power_after view.now work.now }
 {
     let Deed::Act { action, .. } = work.deed else {

@@ -5,12 +5,12 @@ ghost use Rattle.std.specs.Option.{option_to_list, option_copied};
 ghost use Rattle.records.specs.declared.rows.Row.TheVariants as row_of;
 ghost use Rattle.row_machine.specs.machine.Changes.{removal};
 ghost use Rattle.row_machine.specs.machine.Rows.{snapshot_named};
-ghost use Rattle.row_machine.specs.machine.Work.{removes_instance};
+ghost use Rattle.row_machine.specs.machine.Operations.{removes_instance};
 
 use object_links::{three_names, two_names};
 use records::{Instance, Snapshot};
-use row_machine::{RowChange, Work};
-use row_readings::{View, rows_of};
+use row_machine::{RowChange, Task};
+use row_readings::{StateRef, rows_of};
 use size_values::{Boxed, NoMemory, ObjectKind, Seq};
 use std::alloc::Global;
 
@@ -61,7 +61,7 @@ fn remove_snapshots(
 /// Adds the removals of all snapshots of an instance. Those of other projects are not gone over.
 fn remove_snapshots_of(
     alloc: Global,
-    view: &View<'_>,
+    view: &StateRef<'_>,
     project: &str,
     instance: &str,
     changes: &mut Seq<RowChange>,
@@ -92,7 +92,7 @@ fn remove_instance(
 /// The removal of an instance, after those of all its snapshots.
 pub(crate) fn removes_instance(
     alloc: Global,
-    view: &View<'_>,
+    view: &StateRef<'_>,
     project: &str,
     name: &str,
 ) -> Result<Seq<RowChange>, NoMemory>
@@ -108,8 +108,8 @@ pub(crate) fn removes_instance(
 /// The removal of the snapshot that an operation is about, where there is one.
 pub(crate) fn removes_snapshot(
     alloc: Global,
-    view: &View<'_>,
-    work: &Work,
+    view: &StateRef<'_>,
+    work: &Task,
 ) -> Result<Seq<RowChange>, NoMemory>
     ensures { IfOk result (λ cs. cs ≡ map removal (map row_of.Snapshot (option_to_list
         (snapshot_named view.now.snapshots work.now.project work.now.target.instance work.now.target.name)))) }

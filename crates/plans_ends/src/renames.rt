@@ -3,12 +3,12 @@ ghost use Rattle.std.specs.Prelude.{◌≡◌, [], ◌∷◌, ◌++◌, IfOk, On
 ghost use Rattle.std.specs.Str.{bytes_eq};
 ghost use Rattle.records.specs.declared.rows.Row.TheVariants as row_of;
 ghost use Rattle.row_machine.specs.declared.changes.RowChange.TheVariants as change;
-ghost use Rattle.row_machine.specs.machine.Work.{renames_instance};
+ghost use Rattle.row_machine.specs.machine.Operations.{renames_instance};
 
 use crate::removals::{is_of, removes_instance};
 use records::{Instance, Row, Snapshot};
-use row_machine::{RowChange, Work};
-use row_readings::{View, rows_of};
+use row_machine::{RowChange, Task};
+use row_readings::{StateRef, rows_of};
 use size_values::{Boxed, NoMemory, Seq, Text};
 use std::alloc::Global;
 
@@ -76,7 +76,7 @@ fn put_moved(
 /// Puts an instance, and the snapshots of the one whose place it takes. Those of other projects are not gone over.
 fn put_moved_of(
     alloc: Global,
-    view: &View<'_>,
+    view: &StateRef<'_>,
     project: &str,
     instance: &str,
     to: &Instance,
@@ -95,8 +95,8 @@ fn put_moved_of(
 /// A row takes the place of the instance that an operation is about, and the snapshots go with it.
 pub(crate) fn renames_instance(
     alloc: Global,
-    view: &View<'_>,
-    work: &Work,
+    view: &StateRef<'_>,
+    work: &Task,
     to: &Instance,
 ) -> Result<Seq<RowChange>, NoMemory>
     ensures { IfOk result (λ cs. cs ≡ renames_instance view.now work.now to.now) }

@@ -15,7 +15,7 @@ use crate::projects::{
 };
 use records::{Body, Origin, Row, Target};
 use row_machine::RowChange;
-use row_readings::{AnyRow, View};
+use row_readings::{AnyRow, StateRef};
 use rows_made::{
     made_network, made_pool, made_profile, made_volume, patched_instance, patched_network,
     patched_pool, patched_profile, patched_volume, put_network, put_pool, put_profile, put_volume,
@@ -59,7 +59,7 @@ fn volume_made(
 /// What a creation changes at once.
 pub(crate) fn creation_changes(
     alloc: Global,
-    view: &View<'_>,
+    view: &StateRef<'_>,
     project: &str,
     of: &Target,
     body: &Body,
@@ -175,7 +175,7 @@ fn with_row_last(changes: Seq<RowChange>, row: Row) -> Result<Option<Seq<RowChan
 /// What a rename changes at once.
 pub(crate) fn move_changes(
     alloc: Global,
-    view: &View<'_>,
+    view: &StateRef<'_>,
     old: AnyRow<'_>,
     to: &Text,
 ) -> Result<Option<Seq<RowChange>>, NoMemory>
@@ -211,7 +211,7 @@ pub(crate) fn move_changes(
 /// What a deletion changes at once.
 pub(crate) fn deletion_changes(
     alloc: Global,
-    view: &View<'_>,
+    view: &StateRef<'_>,
     old: AnyRow<'_>,
 ) -> Result<Option<Seq<RowChange>>, NoMemory>
     ensures { (project : List ℕ) (of : TargetValue)

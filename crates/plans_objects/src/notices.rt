@@ -10,7 +10,7 @@ use crate::planned::Planned;
 use object_links::life_notice;
 use records::{Life, Target};
 use row_machine::RowChange;
-use row_readings::View;
+use row_readings::StateRef;
 use size_values::{NoMemory, ObjectKind, Seq};
 use std::alloc::Global;
 
@@ -75,7 +75,7 @@ pub(crate) fn deleted_life(kind: ObjectKind) -> Option<Life>
 /// The changes of a plan, where it makes some at once, with the notice of an action on the object that they are of.
 pub(crate) fn with_notice(
     alloc: Global,
-    view: &View<'_>,
+    view: &StateRef<'_>,
     project: &str,
     of: &Target,
     action: Life,

@@ -7,14 +7,14 @@ use crate::made::{creation_changes, deletion_changes, move_changes, patch_change
 use crate::notices::{changed_life, deleted_life, made_life, moved_life, with_notice};
 use crate::planned::Planned;
 use records::{Body, Command, Target, What};
-use row_readings::{View, row_of};
+use row_readings::{StateRef, row_of};
 use size_values::{NoMemory, Text};
 use std::alloc::Global;
 
 /// What a creation is to do.
 fn plan_creation(
     alloc: Global,
-    view: &View<'_>,
+    view: &StateRef<'_>,
     project: &str,
     of: &Target,
     body: &Body,
@@ -33,7 +33,7 @@ fn plan_creation(
 /// What a PUT is to do.
 fn plan_put(
     alloc: Global,
-    view: &View<'_>,
+    view: &StateRef<'_>,
     project: &str,
     of: &Target,
     body: &Body,
@@ -55,7 +55,7 @@ fn plan_put(
 /// What a PATCH is to do.
 fn plan_patch(
     alloc: Global,
-    view: &View<'_>,
+    view: &StateRef<'_>,
     project: &str,
     of: &Target,
     body: &Body,
@@ -92,7 +92,7 @@ fn renamed_target(alloc: Global, of: &Target, name: &Text) -> Result<Target, NoM
 /// What a rename is to do. Its notice has the new name.
 fn plan_move(
     alloc: Global,
-    view: &View<'_>,
+    view: &StateRef<'_>,
     project: &str,
     of: &Target,
     to: &Text,
@@ -117,7 +117,7 @@ fn plan_move(
 /// What a deletion is to do.
 fn plan_deletion(
     alloc: Global,
-    view: &View<'_>,
+    view: &StateRef<'_>,
     project: &str,
     of: &Target,
     moment: u64,
@@ -139,7 +139,7 @@ fn plan_deletion(
 /// operation, or where what it speaks of is missing. The moment is in seconds since 1970.
 pub fn plan_change(
     alloc: Global,
-    view: &View<'_>,
+    view: &StateRef<'_>,
     command: &Command,
     moment: u64,
 ) -> Result<Option<Planned>, NoMemory>

@@ -12,7 +12,7 @@ ghost use Rattle.row_machine.specs.machine.Plans.{project_deletion};
 use crate::changes::{and_default_removal, and_put, and_removal, one_put, one_removal};
 use records::{Body, Profile, Project, Row};
 use row_machine::RowChange;
-use row_readings::{AnyRow, View, is_on};
+use row_readings::{AnyRow, StateRef, is_on};
 use rows_made::{
     default_profile, made_project, patched_project, put_project, rehomed_profile, renamed_project,
 };
@@ -108,7 +108,7 @@ fn and_rehomed(
 /// A project gets another name, and its profile `default` with it.
 pub(crate) fn project_rename(
     alloc: Global,
-    view: &View<'_>,
+    view: &StateRef<'_>,
     old: &Project,
     to: &Text,
 ) -> Result<Seq<RowChange>, NoMemory>
@@ -126,7 +126,7 @@ pub(crate) fn project_rename(
 /// A project goes, and its profile `default` with it.
 pub(crate) fn project_deletion(
     alloc: Global,
-    view: &View<'_>,
+    view: &StateRef<'_>,
     old: &Project,
 ) -> Result<Seq<RowChange>, NoMemory>
     ensures { IfOk result (λ cs. cs ≡ project_deletion view.now old.now) }

@@ -8,18 +8,18 @@ ghost use Rattle.row_machine.specs.machine.Tasks.{act_task};
 use crate::calls::{one_call, spec_of};
 use crate::creation_calls::{place_of, push_clear};
 use crate::pairs::both;
-use crate::works::{plain_task, project_and_target};
+use crate::plain_tasks::{plain_task, project_and_target};
 use host_model::{HostCall, Place};
 use records::{Instance, Target};
-use row_machine::Work;
-use row_readings::View;
+use row_machine::Task;
+use row_readings::StateRef;
 use size_values::{Action, Deed, NoMemory, Seq, Text};
 use std::alloc::Global;
 
 /// Then an instance is started with what it has.
 fn push_start(
     alloc: Global,
-    view: &View<'_>,
+    view: &StateRef<'_>,
     calls: &mut Seq<HostCall>,
     at: &Place,
     row: &Instance,
@@ -34,7 +34,7 @@ fn push_start(
 
 fn start_calls(
     alloc: Global,
-    view: &View<'_>,
+    view: &StateRef<'_>,
     at: &Place,
     row: &Instance,
 ) -> Result<Seq<HostCall>, NoMemory>
@@ -64,7 +64,7 @@ fn last_stop_calls(alloc: Global, at: &Place) -> Result<Seq<HostCall>, NoMemory>
 
 fn restart_calls(
     alloc: Global,
-    view: &View<'_>,
+    view: &StateRef<'_>,
     at: &Place,
     row: &Instance,
 ) -> Result<Seq<HostCall>, NoMemory>
@@ -95,7 +95,7 @@ fn thaw_calls(alloc: Global, at: &Place) -> Result<Seq<HostCall>, NoMemory>
 /// The calls of an action on an instance at this place.
 fn calls_at(
     alloc: Global,
-    view: &View<'_>,
+    view: &StateRef<'_>,
     action: Action,
     at: &Place,
     row: &Instance,
@@ -117,12 +117,12 @@ fn calls_at(
 /// The state of an instance is changed.
 pub(crate) fn act_task(
     alloc: Global,
-    view: &View<'_>,
+    view: &StateRef<'_>,
     project: &Text,
     of: &Target,
     action: Action,
     row: &Instance,
-) -> Result<Work, NoMemory>
+) -> Result<Task, NoMemory>
     ensures { IfOk result (λ w. w ≡ act_task view.now project.now of.now action row.now) }
 {
     let at = place_of(alloc, project, &of.name)?;

@@ -8,7 +8,7 @@ use crate::creation_calls::place_of;
 use crate::pairs::both;
 use host_model::{HostCall, Place, Spec};
 use records::{Instance, Target};
-use row_readings::View;
+use row_readings::StateRef;
 use size_values::{NoMemory, Seq, Text};
 use std::alloc::Global;
 
@@ -22,7 +22,7 @@ pub(crate) fn one_call(alloc: Global, only: HostCall) -> Result<Seq<HostCall>, N
 }
 
 /// What an instance is started with: what it has of its profiles and of its own.
-pub(crate) fn spec_of(alloc: Global, view: &View<'_>, row: &Instance) -> Result<Spec, NoMemory>
+pub(crate) fn spec_of(alloc: Global, view: &StateRef<'_>, row: &Instance) -> Result<Spec, NoMemory>
     ensures { IfOk result (λ s. s ≡ spec_of (expanded_of view.now.projects view.now.profiles row.now)) }
 {
     let expanded = view.expansion(alloc, row)?;
@@ -47,7 +47,7 @@ pub(crate) fn clear_calls(
 /// A changed instance is told what it has.
 pub(crate) fn apply_calls(
     alloc: Global,
-    view: &View<'_>,
+    view: &StateRef<'_>,
     project: &Text,
     name: &Text,
     row: &Instance,

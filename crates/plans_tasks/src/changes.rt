@@ -8,23 +8,23 @@ ghost use Rattle.plans_tasks.specs.Begun.{task_in};
 use crate::calls::{apply_calls, rename_calls, restore_calls};
 use crate::finds::instance_at;
 use crate::pairs::both;
+use crate::plain_tasks::{replacing_task, target_and_replaced};
 use crate::rows::{put_instance, renamed_instance, restored_instance};
-use crate::works::{replacing_task, target_and_replaced};
 use records::{Body, Instance, Snapshot, Target};
-use row_machine::Work;
-use row_readings::View;
+use row_machine::Task;
+use row_readings::StateRef;
 use size_values::{Boxed, Deed, NoMemory, Text};
 use std::alloc::Global;
 
 /// The host is told what the changed instance has.
 fn update_task(
     alloc: Global,
-    view: &View<'_>,
+    view: &StateRef<'_>,
     project: &Text,
     of: &Target,
     body: &Body,
     old: &Instance,
-) -> Result<Work, NoMemory>
+) -> Result<Task, NoMemory>
     ensures { IfOk result (λ w. w ≡ update_task view.now project.now of.now (put_instance old.now body.now)) }
 {
     let row = Boxed::new(alloc, put_instance(alloc, old, body)?)?;
@@ -41,7 +41,7 @@ fn rename_task(
     of: &Target,
     to: &Text,
     old: &Instance,
-) -> Result<Work, NoMemory>
+) -> Result<Task, NoMemory>
     ensures { IfOk result (λ w. w ≡ rename_task project.now of.now to.now old.now) }
 {
     let calls = rename_calls(alloc, project, &of.name, to);
@@ -57,7 +57,7 @@ fn restore_task(
     of: &Target,
     old: &Instance,
     snapshot: &Snapshot,
-) -> Result<Work, NoMemory>
+) -> Result<Task, NoMemory>
     ensures { IfOk result (λ w. w ≡ restore_task project.now of.now old.now snapshot.now) }
 {
     let calls = restore_calls(alloc, project, &of.name, &snapshot.name);
@@ -72,11 +72,11 @@ fn restore_task(
 /// What a PUT begins: of an instance an update, of other objects nothing.
 pub(crate) fn plan_put(
     alloc: Global,
-    view: &View<'_>,
+    view: &StateRef<'_>,
     project: &Text,
     of: &Target,
     body: &Body,
-) -> Result<Option<Work>, NoMemory>
+) -> Result<Option<Task>, NoMemory>
     ensures { IfOk result (λ w. w ≡ task_in
         (if_there (plan_put view.now project.now of.now body.now) (row_of view.now project.now of.now))) }
 {
@@ -90,11 +90,11 @@ pub(crate) fn plan_put(
 /// What a rename begins: only that of an instance is no change at once.
 pub(crate) fn plan_move(
     alloc: Global,
-    view: &View<'_>,
+    view: &StateRef<'_>,
     project: &Text,
     of: &Target,
     to: &Text,
-) -> Result<Option<Work>, NoMemory>
+) -> Result<Option<Task>, NoMemory>
     ensures { IfOk result (λ w. w ≡ task_in
         (if_there (plan_move view.now project.now of.now to.now) (row_of view.now project.now of.now))) }
 {
@@ -108,12 +108,12 @@ pub(crate) fn plan_move(
 /// What the restore of an instance begins.
 pub(crate) fn plan_restore(
     alloc: Global,
-    view: &View<'_>,
+    view: &StateRef<'_>,
     project: &Text,
     of: &Target,
     name: &Text,
     old: &Instance,
-) -> Result<Option<Work>, NoMemory>
+) -> Result<Option<Task>, NoMemory>
     ensures { IfOk result (λ w. w ≡ task_in (plan_restore view.now project.now of.now name.now old.now)) }
 {
     let found = view.snapshot_named(project.view(), of.name.view(), name.view());

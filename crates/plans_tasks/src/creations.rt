@@ -7,20 +7,20 @@ use crate::snapshots::plan_snapshot;
 use crate::tasks::instance_creation;
 use crate::volumes::plan_volume;
 use records::{Body, Target};
-use row_machine::Work;
-use row_readings::View;
+use row_machine::Task;
+use row_readings::StateRef;
 use size_values::{NoMemory, ObjectKind, Text};
 use std::alloc::Global;
 
 /// What a creation begins: those of instances and snapshots, and of copies of volumes, are no changes at once.
 pub(crate) fn plan_create(
     alloc: Global,
-    view: &View<'_>,
+    view: &StateRef<'_>,
     project: &Text,
     of: &Target,
     body: &Body,
     moment: u64,
-) -> Result<Option<Work>, NoMemory>
+) -> Result<Option<Task>, NoMemory>
     ensures { IfOk result (λ w. w ≡ task_in (plan_create view.now project.now of.now body.now moment)) }
 {
     match of.kind {

@@ -7,15 +7,15 @@ ghost use Rattle.plans_tasks.specs.Begun.{task_in};
 use crate::calls::{clear_calls, unsnap_calls};
 use crate::finds::{instance_at, snapshot_at};
 use crate::pairs::both;
-use crate::works::{plain_task, project_and_target};
+use crate::plain_tasks::{plain_task, project_and_target};
 use records::Target;
-use row_machine::Work;
-use row_readings::View;
+use row_machine::Task;
+use row_readings::StateRef;
 use size_values::{Deed, NoMemory, Text};
 use std::alloc::Global;
 
 /// An instance is deleted.
-fn deletion_task(alloc: Global, project: &Text, of: &Target) -> Result<Work, NoMemory>
+fn deletion_task(alloc: Global, project: &Text, of: &Target) -> Result<Task, NoMemory>
     ensures { IfOk result (λ w. w ≡ deletion_task project.now of.now) }
 {
     let calls = clear_calls(alloc, project, &of.name);
@@ -24,7 +24,7 @@ fn deletion_task(alloc: Global, project: &Text, of: &Target) -> Result<Work, NoM
 }
 
 /// A snapshot is deleted.
-fn snapshot_deletion(alloc: Global, project: &Text, of: &Target) -> Result<Work, NoMemory>
+fn snapshot_deletion(alloc: Global, project: &Text, of: &Target) -> Result<Task, NoMemory>
     ensures { IfOk result (λ w. w ≡ snapshot_deletion project.now of.now) }
 {
     let calls = unsnap_calls(alloc, project, of);
@@ -35,10 +35,10 @@ fn snapshot_deletion(alloc: Global, project: &Text, of: &Target) -> Result<Work,
 /// What a deletion begins.
 pub(crate) fn plan_delete(
     alloc: Global,
-    view: &View<'_>,
+    view: &StateRef<'_>,
     project: &Text,
     of: &Target,
-) -> Result<Option<Work>, NoMemory>
+) -> Result<Option<Task>, NoMemory>
     ensures { IfOk result (λ w. w ≡ task_in
         (if_there (plan_delete view.now project.now of.now) (row_of view.now project.now of.now))) }
 {

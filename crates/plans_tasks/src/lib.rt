@@ -11,12 +11,12 @@ mod deletions;
 mod finds;
 mod making;
 mod pairs;
+mod plain_tasks;
 mod plans;
 mod rows;
 mod snapshots;
 mod tasks;
 mod volumes;
-mod works;
 
 pub use creation_calls::{copy_calls, place_of, push_clear};
 pub use making::copy_texts;

@@ -10,19 +10,19 @@ use crate::changes::{plan_move, plan_put, plan_restore};
 use crate::creations::plan_create;
 use crate::deletions::plan_delete;
 use records::{Command, Target, What};
-use row_machine::Work;
-use row_readings::View;
+use row_machine::Task;
+use row_readings::StateRef;
 use size_values::{Action, NoMemory, Text};
 use std::alloc::Global;
 
 /// What a change of an instance's state begins.
 fn plan_act(
     alloc: Global,
-    view: &View<'_>,
+    view: &StateRef<'_>,
     project: &Text,
     of: &Target,
     action: Action,
-) -> Result<Option<Work>, NoMemory>
+) -> Result<Option<Task>, NoMemory>
     ensures { IfOk result (λ w. w ≡ task_in
         (if_there (λ i. starts (act_task view.now project.now of.now action i))
         (instance_named view.now.instances project.now of.now.name))) }
@@ -37,11 +37,11 @@ fn plan_act(
 /// What a restore begins.
 fn plan_return(
     alloc: Global,
-    view: &View<'_>,
+    view: &StateRef<'_>,
     project: &Text,
     of: &Target,
     snapshot: &Text,
-) -> Result<Option<Work>, NoMemory>
+) -> Result<Option<Task>, NoMemory>
     ensures { IfOk result (λ w. w ≡ task_in
         (if_there (plan_restore view.now project.now of.now snapshot.now)
         (instance_named view.now.instances project.now of.now.name))) }
@@ -57,10 +57,10 @@ fn plan_return(
 #[tactic(auto, unfolding(row_machine::specs::machine::Plans::plan_of))]
 pub fn plan_task(
     alloc: Global,
-    view: &View<'_>,
+    view: &StateRef<'_>,
     command: &Command,
     moment: u64,
-) -> Result<Option<Work>, NoMemory>
+) -> Result<Option<Task>, NoMemory>
     ensures { IfOk result (λ w. w ≡ task_in (plan_of view.now command.now moment)) }
 {
     let project = &command.project;

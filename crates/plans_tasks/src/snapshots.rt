@@ -13,12 +13,12 @@ ghost use Rattle.plans_tasks.specs.Begun.{task_in};
 
 use crate::calls::{snap_calls, snapshot_place};
 use crate::pairs::both;
+use crate::plain_tasks::project_and_target;
 use crate::rows::copied_parts;
-use crate::works::project_and_target;
 use host_model::{HostCall, Place};
 use records::{Instance, Row, Snapshot, Target};
-use row_machine::Work;
-use row_readings::{View, next_snapshot};
+use row_machine::Task;
+use row_readings::{StateRef, next_snapshot};
 use size_values::{Boxed, Deed, NoMemory, Seq, Text};
 use std::alloc::Global;
 
@@ -49,7 +49,12 @@ fn made_snapshot(
 }
 
 /// The name that a new snapshot of an instance gets: where the request gives none, the next one.
-fn name_of(alloc: Global, view: &View<'_>, of: &Target, row: &Instance) -> Result<Text, NoMemory>
+fn name_of(
+    alloc: Global,
+    view: &StateRef<'_>,
+    of: &Target,
+    row: &Instance,
+) -> Result<Text, NoMemory>
     ensures { IfOk result (λ t. t
         ≡ (if length of.now.name == 0 then next_snapshot view.now row.now else of.now.name)) }
 {
@@ -63,7 +68,7 @@ fn name_of(alloc: Global, view: &View<'_>, of: &Target, row: &Instance) -> Resul
 /// The new snapshot under its name.
 fn with_name(
     alloc: Global,
-    view: &View<'_>,
+    view: &StateRef<'_>,
     of: &Target,
     row: &Instance,
 ) -> Result<Target, NoMemory>
@@ -81,14 +86,14 @@ fn snapshot_task(
     row: Boxed<Snapshot>,
     calls: Seq<HostCall>,
     place: (Place, Text),
-) -> Work
+) -> Task
     ensures { result
         ≡ record (plain_task deed.Snap about.0 about.1 calls) {
           claim = Some (row_of.Snapshot row);
           undo = Some (call.Unsnap place.0 place.1);
         } }
 {
-    Work {
+    Task {
         deed: Deed::Snap,
         project: about.0,
         target: about.1,
@@ -111,7 +116,7 @@ fn snapshot_creation(
     of: &Target,
     row: &Instance,
     moment: u64,
-) -> Result<Work, NoMemory>
+) -> Result<Task, NoMemory>
     ensures { IfOk result (λ w. w ≡ snapshot_creation project.now of.now moment row.now) }
 {
     let names = both(
@@ -127,11 +132,11 @@ fn snapshot_creation(
 /// What the creation of a snapshot begins, where its instance is there.
 pub(crate) fn plan_snapshot(
     alloc: Global,
-    view: &View<'_>,
+    view: &StateRef<'_>,
     project: &Text,
     of: &Target,
     moment: u64,
-) -> Result<Option<Work>, NoMemory>
+) -> Result<Option<Task>, NoMemory>
     ensures { IfOk result (λ w. w ≡ task_in
         (if_there (λ i. starts (snapshot_creation project.now (with_name view.now project.now of.now) moment i))
         (instance_named view.now.instances project.now of.now.instance))) }

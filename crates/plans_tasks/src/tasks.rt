@@ -16,8 +16,8 @@ use crate::making::{Source, copied_instance, image_of, made_instance};
 use crate::pairs::both;
 use host_model::{HostCall, Place};
 use records::{Body, Instance, Origin, Row, Snapshot, Target};
-use row_machine::Work;
-use row_readings::View;
+use row_machine::Task;
+use row_readings::StateRef;
 use size_values::{Boxed, Deed, NoMemory, ObjectKind, Seq, Text};
 use std::alloc::Global;
 
@@ -101,7 +101,7 @@ fn begin_from_root(
 }
 
 /// The task of a creation or of a copy, which claims this row.
-fn claiming_task(deed: Deed, begun: Begun, row: Boxed<Instance>, source: Option<Target>) -> Work
+fn claiming_task(deed: Deed, begun: Begun, row: Boxed<Instance>, source: Option<Target>) -> Task
     ensures { result
         ≡ record (plain_task deed begun.project begun.target begun.calls) {
           claim = Some (row_of.Instance row);
@@ -109,7 +109,7 @@ fn claiming_task(deed: Deed, begun: Begun, row: Boxed<Instance>, source: Option<
           undo = Some (call.Clear begun.at);
         } }
 {
-    Work {
+    Task {
         deed,
         project: begun.project,
         target: begun.target,
@@ -129,7 +129,7 @@ fn creation_task(
     of: &Target,
     body: &Body,
     moment: u64,
-) -> Result<Work, NoMemory>
+) -> Result<Task, NoMemory>
     ensures { IfOk result (λ w. w ≡ creation_task project.now of.now body.now moment) }
 {
     let begun = begin_from_image(alloc, project, of, image_of(&body.origin));
@@ -171,7 +171,7 @@ fn instance_copy(
     moment: u64,
     from: &Text,
     old: &Instance,
-) -> Result<Work, NoMemory>
+) -> Result<Task, NoMemory>
     ensures { IfOk result (λ w. w
         ≡ copy project.now of.now body.now moment (instance_target from.now) (source_instance old.now)) }
 {
@@ -199,7 +199,7 @@ fn snapshot_copy(
     old: &Instance,
     snapshot: &Snapshot,
     name: &Text,
-) -> Result<Work, NoMemory>
+) -> Result<Task, NoMemory>
     ensures { IfOk result (λ w. w
         ≡ copy project.now of.now body.now moment (snapshot_target from.now name.now)
         (source_snapshot old.now snapshot.now)) }
@@ -220,14 +220,14 @@ fn snapshot_copy(
 /// A copy from an instance, or from its snapshot where one is named.
 fn copy_from(
     alloc: Global,
-    view: &View<'_>,
+    view: &StateRef<'_>,
     project: &Text,
     of: &Target,
     body: &Body,
     moment: u64,
     from: &Text,
     name: &Text,
-) -> Result<Option<Work>, NoMemory>
+) -> Result<Option<Task>, NoMemory>
     ensures { IfOk result (λ w. planned w ≡ copy_from view.now project.now of.now body.now moment from.now name.now) }
 {
     let Some(old) = view.instance_named(project.view(), from.view()) else {
@@ -248,12 +248,12 @@ fn copy_from(
 /// What the creation of an instance begins: nothing, where what it is copied from is missing.
 pub fn instance_creation(
     alloc: Global,
-    view: &View<'_>,
+    view: &StateRef<'_>,
     project: &Text,
     of: &Target,
     body: &Body,
     moment: u64,
-) -> Result<Option<Work>, NoMemory>
+) -> Result<Option<Task>, NoMemory>
     ensures { IfOk result (λ w. planned w
         ≡ instance_creation view.now project.now of.now body.now moment body.now.origin) }
 {

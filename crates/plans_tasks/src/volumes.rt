@@ -14,8 +14,8 @@ use crate::creation_calls::copy_calls;
 use crate::pairs::both;
 use host_model::{HostCall, Place};
 use records::{Body, Origin, Row, Target, Volume};
-use row_machine::Work;
-use row_readings::View;
+use row_machine::Task;
+use row_readings::StateRef;
 use rows_made::{new_description, patched_config};
 use size_values::{Boxed, Deed, NoMemory, Seq, Text};
 use std::alloc::Global;
@@ -104,7 +104,7 @@ fn copy_task(
     source: Target,
     row: Boxed<Volume>,
     copying: (Place, Seq<HostCall>),
-) -> Work
+) -> Task
     ensures { result
         ≡ record (plain_task deed.CopyVolume about.0 about.1 copying.1) {
           claim = Some (row_of.Volume row);
@@ -112,7 +112,7 @@ fn copy_task(
           undo = Some (call.Clear copying.0);
         } }
 {
-    Work {
+    Task {
         deed: Deed::CopyVolume,
         project: about.0,
         target: about.1,
@@ -135,7 +135,7 @@ fn volume_copy(
     from: &Text,
     pool: &Text,
     source: &Volume,
-) -> Result<Work, NoMemory>
+) -> Result<Task, NoMemory>
     ensures { IfOk result (λ w. w
         ≡ volume_copy project.now of.now body.now moment (volume_source of.now from.now pool.now) source.now) }
 {
@@ -153,12 +153,12 @@ fn volume_copy(
 /// What the creation of a volume begins: that of a copy an operation, where its source is there.
 pub(crate) fn plan_volume(
     alloc: Global,
-    view: &View<'_>,
+    view: &StateRef<'_>,
     home: &str,
     of: &Target,
     body: &Body,
     moment: u64,
-) -> Result<Option<Work>, NoMemory>
+) -> Result<Option<Task>, NoMemory>
     ensures { IfOk result (λ w. w ≡ task_in
         (volume_creation view.now home.now of.now body.now moment body.now.origin)) }
 {

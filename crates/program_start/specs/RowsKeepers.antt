@@ -8,8 +8,8 @@ use Rattle.program_start.specs.declared.rows_keeper.RowsKeeper.TheVariants.{Memo
 -- what is seen of it
 abbrev pub store_of : RowsKeeper → Store
 store_of (Memory keeper) =
-    record { told = Some keeper.entries; calls = keeper.calls.made; failures = keeper.calls.failed }
-store_of (File keeper) = record { told = None; calls = keeper.calls; failures = keeper.failures }
+    record { contents = Some keeper.entries; calls = keeper.calls.made; failures = keeper.calls.failed }
+store_of (File keeper) = record { contents = None; calls = keeper.calls; failures = keeper.failures }
 
 -- the keeper of this path before its first call: in memory where the path is empty, and its calls of these numbers fail
 abbrev pub keeper_at : List ℕ → List ℕ → RowsKeeper

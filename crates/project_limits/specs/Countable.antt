@@ -22,14 +22,14 @@ abbrev pub sums : List SumKey
 sums = Cpu ∷ Memory ∷ Processes ∷ Disk ∷ []
 
 -- a sum that is limited although there is no number for it
-abbrev pub uncounted : SumKey → Option ℕ → Option ℕ → Option SumKey
-uncounted key limit number = if is_some limit && is_none number then Some key else None
+abbrev pub without_amount : SumKey → Option ℕ → Option ℕ → Option SumKey
+without_amount key limit number = if is_some limit && is_none number then Some key else None
 
 -- the first sum whose limit is set and for which an instance gives no number
-unfoldable pub first_uncounted : Limits → Kind → Settings → NamedDevices → Option SumKey
-first_uncounted limits kind config devices =
-    first_of (λ key. uncounted key (sum_limit key limits) (counted key kind config devices)) sums
+unfoldable pub first_without_amount : Limits → Kind → Settings → NamedDevices → Option SumKey
+first_without_amount limits kind config devices =
+    first_of (λ key. without_amount key (sum_limit key limits) (counted key kind config devices)) sums
 
 -- the same of a volume, which counts for the sum of disks alone
-unfoldable pub volume_uncounted : Limits → Settings → Option SumKey
-volume_uncounted limits config = uncounted Disk limits.disk (size_in config (codes "size"))
+unfoldable pub volume_without_amount : Limits → Settings → Option SumKey
+volume_without_amount limits config = without_amount Disk limits.disk (size_in config (codes "size"))

@@ -5,10 +5,10 @@ use Rattle.size_values.specs.declared.entry.Entry.{Entry}
 use Rattle.size_values.specs.declared.entry.EntryChange.{EntryChange}
 use Rattle.record_keeper.specs.Entries.{after_changes}
 
--- What is seen of a keeper at one moment: its entries, where it tells them; how many calls were made so far; and how
+-- What is seen of a keeper at one moment: its contents, where it shows them; how many calls were made so far; and how
 -- many of them failed. Both counts stop at 2^64 - 1.
 pub record Store : Type 0 where
-  pub told : Option (List Entry)
+  pub contents : Option (List Entry)
   pub calls : ℕ
   pub failures : ℕ
 
@@ -19,7 +19,7 @@ after_calls times store = record store { calls = called times store.calls }
 -- a store after one more call, which made these changes
 abbrev pub after_commit : List EntryChange → Store → Store
 after_commit changes store = record {
-  told = option_map (after_changes changes) store.told;
+  contents = option_map (after_changes changes) store.contents;
   calls = called 1 store.calls;
   failures = store.failures;
 }
@@ -31,7 +31,7 @@ IsAfterUpTo (suc times) before now = (now ≡ after_calls (suc times) before) �
 
 -- after so many more calls, of which the last one failed: the entries are as before, and the count of failures rose
 pub record FailsAtCall (times : ℕ) (before now : Store) : Type 0 where
-  pub told : now.told ≡ before.told
+  pub contents : now.contents ≡ before.contents
   pub calls : now.calls ≡ called times before.calls
   pub later : before.failures ≤ now.failures
   pub rose : Rose before.failures now.failures

@@ -21,17 +21,17 @@ pub trait Keeper {
 
     /// The kept entries, sorted by kind and key, each pair once. Whatever it answers, they stay.
     fn load(&mut self) -> Result<Seq<Entry>, Or<KeeperFailed>>
-        ensures found { IfOk result (λ found. IfSome (store self.old).told (λ kept. found ≡ kept)) }
+        ensures found { IfOk result (λ found. IfSome (store self.old).contents (λ kept. found ≡ kept)) }
         ensures ordered { IfOk result IsOrderedEntries }
-        ensures same { (store self.new).told ≡ (store self.old).told }
+        ensures same { (store self.new).contents ≡ (store self.old).contents }
         ensures calls { (store self.new).calls ≡ called 1 (store self.old).calls }
         ensures failures { CountsFailure (store self.old).failures (store self.new).failures result };
 
     /// Makes all the changes, in their order, or none of them: where it is refused, the entries stay.
     fn commit(&mut self, changes: &Seq<EntryChange>) -> Result<(), Or<KeeperFailed>>
-        ensures ok { OnOk result ((store self.new).told
-            ≡ option_map (after_changes changes.now) (store self.old).told) }
-        ensures err { OnErr result ((store self.new).told ≡ (store self.old).told) }
+        ensures ok { OnOk result ((store self.new).contents
+            ≡ option_map (after_changes changes.now) (store self.old).contents) }
+        ensures err { OnErr result ((store self.new).contents ≡ (store self.old).contents) }
         ensures calls { (store self.new).calls ≡ called 1 (store self.old).calls }
         ensures failures { CountsFailure (store self.old).failures (store self.new).failures result };
 

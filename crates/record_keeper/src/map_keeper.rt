@@ -61,7 +61,7 @@ impl MapKeeper {
 }
 
 impl Keeper for MapKeeper {
-    ghost store = { λ k. record { told = Some k.entries; calls = k.calls.made; failures = k.calls.failed } };
+    ghost store = { λ k. record { contents = Some k.entries; calls = k.calls.made; failures = k.calls.failed } };
 
     fn load(&mut self) -> Result<Seq<Entry>, Or<KeeperFailed>>
         ensures found { IfOk result (λ found. found ≡ self.old.entries) }

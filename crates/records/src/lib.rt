@@ -12,8 +12,8 @@ mod texts;
 
 pub use commands::{Body, Command, Origin, Target, What};
 pub use config_lists::{Changes, Config, Device, Devices};
-pub use notices::{Filter, Life, Notice, Told, Untold};
+pub use notices::{EventBody, Filter, Life, Notice, Untold};
 pub use operations::{OpFault, Status};
-pub use refusals::{Kept, Refusal, Rule};
+pub use refusals::{Details, Refusal, Rule};
 pub use replies::{LimitKeyName, OpView, Reply, UsageLine, View};
 pub use rows::{Driver, Instance, Network, Pool, Profile, Project, Row, Snapshot, Volume};

@@ -4,10 +4,10 @@ use crate::replies::OpView;
 use size_values::{NoMemory, Text};
 use std::alloc::Global;
 
-/// What an event tells: an action of a lifecycle event with the link of its object, or an operation as it is
+/// What an event tells: an action of a lifecycle event with the URL of its object, or an operation as it is
 /// after a change of its status.
 #[derive(Drop)]
-pub enum Told {
+pub enum EventBody {
     Life { action: Life, source: Text },
     Op(OpView),
 }
@@ -56,7 +56,7 @@ pub struct Notice {
     pub number: u64,
     pub moment: u64,
     pub project: Text,
-    pub told: Told,
+    pub body: EventBody,
 }
 
 /// Which events a listener takes: those of one project, of the types `lifecycle` and `operation` that it wants.
@@ -72,20 +72,20 @@ pub struct Filter {
 pub struct Untold {
     pub moment: u64,
     pub project: Text,
-    pub told: Told,
+    pub body: EventBody,
 }
 
-impl Told {
+impl EventBody {
     /// The same, of its own.
-    pub fn copy(&self, alloc: Global) -> Result<Told, NoMemory>
+    pub fn copy(&self, alloc: Global) -> Result<EventBody, NoMemory>
         ensures { IfOk result (λ t. t ≡ self.now) }
     {
         match self {
-            Told::Life { action, source } => Ok(Told::Life {
+            EventBody::Life { action, source } => Ok(EventBody::Life {
                 action: *action,
                 source: source.copy(alloc)?,
             }),
-            Told::Op(view) => Ok(Told::Op(view.copy(alloc)?)),
+            EventBody::Op(view) => Ok(EventBody::Op(view.copy(alloc)?)),
         }
     }
 }
@@ -99,7 +99,7 @@ impl Notice {
             number: self.number,
             moment: self.moment,
             project: self.project.copy(alloc)?,
-            told: self.told.copy(alloc)?,
+            body: self.body.copy(alloc)?,
         })
     }
 }

@@ -117,7 +117,7 @@ pub enum Rule {
 /// What a refusal tells of its rule: the kind and name of an object, its project, a key, a number, or the used,
 /// asked and allowed amounts of a limit. The parts that a rule does not tell are empty or 0.
 #[derive(Drop)]
-pub struct Kept {
+pub struct Details {
     pub kind: Text,
     pub project: Text,
     pub name: Text,
@@ -128,19 +128,19 @@ pub struct Kept {
     pub limit: u128,
 }
 
-/// Why a request is refused: the rule, and what is told of it.
+/// Why a request is refused: the rule, and its details.
 #[derive(Drop)]
 pub struct Refusal {
     pub rule: Rule,
-    pub kept: Kept,
+    pub details: Details,
 }
 
-impl Kept {
+impl Details {
     /// The same parts, of its own.
-    pub fn copy(&self, alloc: Global) -> Result<Kept, NoMemory>
+    pub fn copy(&self, alloc: Global) -> Result<Details, NoMemory>
         ensures { IfOk result (λ k. k ≡ self.now) }
     {
-        Ok(Kept {
+        Ok(Details {
             kind: self.kind.copy(alloc)?,
             project: self.project.copy(alloc)?,
             name: self.name.copy(alloc)?,
@@ -160,7 +160,7 @@ impl Refusal {
     {
         Ok(Refusal {
             rule: self.rule,
-            kept: self.kept.copy(alloc)?,
+            details: self.details.copy(alloc)?,
         })
     }
 }

@@ -43,7 +43,7 @@ pub struct UsageLine {
     pub limit: Option<u64>,
 }
 
-/// One object as a reply shows it. The lists of texts are `used_by`, the links of the objects that use it. An
+/// One object as a reply shows it. The lists of texts are `used_by`, the URLs of the objects that use it. An
 /// instance has its expanded settings and devices beside its row, and its status. `Usage` is the state of a
 /// project, and `Power` that of an instance.
 #[derive(Drop)]

@@ -5,7 +5,7 @@ use Rattle.std.proofs.Common.{subst}
 use Rattle.std.specs.Option.{option_map_or, option_and_then}
 use Rattle.record_keeper.specs.Store.{Store}
 use Rattle.operations.specs.declared.operation.Operation.{Operation}
-use Rattle.operations.specs.Kept.{kept_at}
+use Rattle.operations.specs.OperationTable.{kept_at}
 use Rattle.records.specs.declared.commands.Command.{Command}
 use Rattle.records.specs.declared.commands.What.{What}
 use Rattle.records.specs.declared.commands.What.TheVariants as what
@@ -22,7 +22,7 @@ use Rattle.row_machine.specs.machine.State.{State}
 use Rattle.row_machine.specs.machine.Task.{Task}
 use Rattle.row_machine.specs.machine.Plans.{Plan, nothing, changes, starts, plan_of, row_of}
 use Rattle.row_machine.specs.machine.Rules.{broken}
-use Rattle.row_machine.specs.machine.Work.{entered}
+use Rattle.row_machine.specs.machine.Operations.{entered}
 use Rattle.row_machine.specs.machine.Accept.{After, and_then, accepted, carried_out, cancel_or_read, started}
 use Rattle.row_machine.specs.machine.Step.{Outcome, well, keeper_failed, no_memory, step, after_command, unavailable}
 use Rattle.row_machine.specs.shown.Views.{read, one, row_view, state_view, operation_view, list_reply, operations_reply}

@@ -6,8 +6,8 @@ use Rattle.records.specs.declared.replies.Reply.TheVariants as reply
 use Rattle.row_machine.specs.declared.events.Answer.{Answer}
 use Rattle.row_machine.specs.declared.events.Answer.TheVariants as answer
 use Rattle.core_turns.specs.core_rows.specs.Asked.{answered}
-use Rattle.rest_answers.specs.declared.asked.Asked.{Asked}
-use Rattle.rest_answers.specs.declared.asked.Asked.TheVariants as asked
+use Rattle.rest_answers.specs.declared.asked.ReplyOrWait.{ReplyOrWait}
+use Rattle.rest_answers.specs.declared.asked.ReplyOrWait.TheVariants as asked
 
 -- The answers that a command can have: a reply, that it waits, or that memory was refused, which is no reply of its
 -- own.
@@ -24,7 +24,7 @@ IsAtOnce answer.NoMemory = Unit {0}
 IsAtOnce other = ⊥
 
 -- the answer that this is
-abbrev pub answer_of : Asked → Answer
+abbrev pub answer_of : ReplyOrWait → Answer
 answer_of (asked.Reply reply) = answered reply
 answer_of (asked.Hold op) = answer.Hold op
 

@@ -9,8 +9,8 @@ use Rattle.records.specs.declared.replies.Reply.{Reply}
 use Rattle.records.specs.declared.replies.Reply.TheVariants as reply
 use Rattle.row_machine.specs.machine.Refusals.{plain_refusal}
 use Rattle.rest_replies.specs.Replies.{printed_of}
-use Rattle.rest_answers.specs.declared.answers.Answered.{Answered}
-use Rattle.rest_answers.specs.declared.answers.Answered.TheVariants as written
+use Rattle.rest_answers.specs.declared.answers.PrintedReply.{PrintedReply}
+use Rattle.rest_answers.specs.declared.answers.PrintedReply.TheVariants as written
 
 -- the bytes of a reply, which says where the connection ends after it
 unfoldable pub printed : Reply → ℕ → Bool → List ℕ
@@ -34,19 +34,19 @@ no_memory_text last = reply_text (record { code = 500; body = no_memory_body; lo
 
 -- What is to be written is the text of the reply, unless memory for it was refused. The reply that tells of memory
 -- refused takes none, and is always written.
-abbrev pub HasText : Answered → Reply → ℕ → Bool → Type 0
+abbrev pub HasText : PrintedReply → Reply → ℕ → Bool → Type 0
 HasText (written.Printed bytes) a_reply boot last = bytes ≡ printed a_reply boot last
 HasText written.NoMemory a_reply boot last = no_memory_text last ≡ printed a_reply boot last
 HasText written.Unprinted a_reply boot last = a_reply ≢ reply.NoMemory
 
 -- the bytes that are written for an answer
-abbrev pub text_for : Answered → Bool → List ℕ
+abbrev pub text_for : PrintedReply → Bool → List ℕ
 text_for (written.Printed bytes) last = bytes
 text_for written.NoMemory last = no_memory_text last
 text_for written.Unprinted last = []
 
 -- memory for the reply was refused
-abbrev pub IsUnprinted : Answered → Type 0
+abbrev pub IsUnprinted : PrintedReply → Type 0
 IsUnprinted (written.Printed bytes) = ⊥
 IsUnprinted written.NoMemory = ⊥
 IsUnprinted written.Unprinted = Unit {0}

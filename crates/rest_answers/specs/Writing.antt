@@ -3,7 +3,7 @@ use Rattle.std.specs.Prelude.{◌≡◌, Bool, Result, Ok, Err}
 use Rattle.http_heads.specs.declared.request.HeadFault.{HeadFault}
 use Rattle.rest_answers.specs.Links.{BreaksOff, Outlet, Takes}
 use Rattle.rest_answers.specs.Texts.{IsUnprinted, malformed_text, text_for}
-use Rattle.rest_answers.specs.declared.answers.Answered.{Answered}
+use Rattle.rest_answers.specs.declared.answers.PrintedReply.{PrintedReply}
 use Rattle.rest_answers.specs.declared.writing.Written.{Written}
 use Rattle.rest_answers.specs.declared.writing.Written.TheVariants as ended
 
@@ -14,7 +14,7 @@ written_by (Err error) = ended.WriteFault
 
 -- An answer was written whole, or some first bytes of it and the write failed; or nothing was, since memory for it was
 -- refused.
-abbrev pub WritesAnswer : Written → Answered → Bool → Outlet → Outlet → Type 0
+abbrev pub WritesAnswer : Written → PrintedReply → Bool → Outlet → Outlet → Type 0
 WritesAnswer ended.Whole answer last sink sink' = ¬ IsUnprinted answer × Takes sink sink' (text_for answer last)
 WritesAnswer ended.WriteFault answer last sink sink' =
     ¬ IsUnprinted answer × BreaksOff sink sink' (text_for answer last)

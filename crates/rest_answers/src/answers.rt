@@ -9,13 +9,13 @@ use crate::reply_text::ReplyText;
 use http_front::{HeadFault, reply_bytes};
 use records::{Refusal, Reply, Rule};
 use rest_replies::{known_reply, no_memory_is_known, print, server_text};
-use rules_refusals::nothing_told;
+use rules_refusals::no_details;
 use size_values::{NoMemory, Seq};
 use std::alloc::Global;
 
 /// What is to be written for a request.
 #[derive(Drop)]
-pub enum Answered {
+pub enum PrintedReply {
     /// These bytes.
     Printed(ReplyText),
     /// Memory was refused before anything changed: the reply that takes none
@@ -48,27 +48,27 @@ fn text_of(alloc: Global, reply: &Reply, boot: u64, last: bool) -> Result<ReplyT
 
 /// What is to be written for a reply. The boot word is that of the ids of operations, and `last` says
 /// whether the connection ends after it.
-pub fn answer_for(alloc: Global, reply: &Reply, boot: u64, last: bool) -> Answered
+pub fn answer_for(alloc: Global, reply: &Reply, boot: u64, last: bool) -> PrintedReply
     ensures { HasText result reply.now boot last }
 {
     match reply {
         Reply::NoMemory => {
             no_memory_is_known();
-            Answered::NoMemory
+            PrintedReply::NoMemory
         }
         _ => match text_of(alloc, reply, boot, last) {
-            Ok(bytes) => Answered::Printed(bytes),
-            Err(NoMemory) => Answered::Unprinted,
+            Ok(bytes) => PrintedReply::Printed(bytes),
+            Err(NoMemory) => PrintedReply::Unprinted,
         },
     }
 }
 
 /// What is to be written for who asks for the server, where the connection stays open after it. It takes no memory.
-pub fn server_answer() -> Answered
+pub fn server_answer() -> PrintedReply
     ensures text { (boot : ℕ) → HasText result (reply.One view.Server) boot false }
     ensures printed { ¬ (IsUnprinted result) }
 {
-    Answered::Printed(ReplyText::ready(server_text()))
+    PrintedReply::Printed(ReplyText::ready(server_text()))
 }
 
 /// The rule that a malformed place breaks.
@@ -89,7 +89,7 @@ fn refusal_of(alloc: Global, fault: HeadFault) -> Refusal
 {
     Refusal {
         rule: rule_of(fault),
-        kept: nothing_told(alloc),
+        details: no_details(alloc),
     }
 }
 

@@ -8,21 +8,21 @@ use row_machine::Answer;
 
 /// What a command is answered at first.
 #[derive(Drop)]
-pub enum Asked {
+pub enum ReplyOrWait {
     Reply(Reply),
     /// It waits for this operation, which is live.
     Hold(u64),
 }
 
 /// What the answer of a command says.
-pub fn asked_of(answer: Answer) -> Asked
+pub fn reply_or_wait_of(answer: Answer) -> ReplyOrWait
     requires { IsForClient answer }
     ensures { answer_of result ≡ answer }
 {
     match answer {
-        Answer::Reply(reply) => Asked::Reply(reply),
-        Answer::Hold(number) => Asked::Hold(number),
-        Answer::NoMemory => Asked::Reply(Reply::NoMemory),
+        Answer::Reply(reply) => ReplyOrWait::Reply(reply),
+        Answer::Hold(number) => ReplyOrWait::Hold(number),
+        Answer::NoMemory => ReplyOrWait::Reply(Reply::NoMemory),
         _ => unreachable!(),
     }
 }

@@ -3,7 +3,7 @@ ghost use Rattle.std.specs.Prelude.{◌≡◌};
 ghost use Rattle.rest_answers.specs.Links.{outlet};
 ghost use Rattle.rest_answers.specs.Writing.{RefusesPlace, WritesAnswer, written_by};
 
-use crate::answers::{Answered, print_malformed};
+use crate::answers::{PrintedReply, print_malformed};
 use http_front::{HeadFault, Sink, SinkFailed, no_memory_reply};
 use size_values::NoMemory;
 use std::alloc::Global;
@@ -28,14 +28,14 @@ fn written_by(came: Result<(), SinkFailed>) -> Written
 }
 
 /// Writes what a request is answered; `last` says whether the connection ends after it.
-pub fn write_answer<K: Sink>(sink: &mut K, answered: &Answered, last: bool) -> Written
+pub fn write_answer<K: Sink>(sink: &mut K, answered: &PrintedReply, last: bool) -> Written
     ensures { WritesAnswer result answered.now last (outlet K.held K.failures sink.old)
         (outlet K.held K.failures sink.new) }
 {
     match answered {
-        Answered::Printed(bytes) => written_by(sink.write(bytes.view())),
-        Answered::NoMemory => written_by(sink.write(no_memory_reply(last))),
-        Answered::Unprinted => Written::NoMemory,
+        PrintedReply::Printed(bytes) => written_by(sink.write(bytes.view())),
+        PrintedReply::NoMemory => written_by(sink.write(no_memory_reply(last))),
+        PrintedReply::Unprinted => Written::NoMemory,
     }
 }
 

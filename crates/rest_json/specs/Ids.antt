@@ -20,9 +20,9 @@ id_bytes boot number = to_be_bytes w128 (high_half boot * 2 ^ 64 + low_half numb
 unfoldable pub id_text : ℕ → ℕ → List ℕ
 id_text boot number = hyphenated_text lower (id_bytes boot number)
 
--- the link of an operation
-unfoldable pub operation_link : ℕ → ℕ → List ℕ
-operation_link boot number = codes "/1.0/operations/" ++ id_text boot number
+-- the URL of an operation
+unfoldable pub operation_url : ℕ → ℕ → List ℕ
+operation_url boot number = codes "/1.0/operations/" ++ id_text boot number
 
 -- the number that two halves name, where they are those of an id of this boot
 unfoldable pub number_in : ℕ → ℕ → ℕ → Option ℕ

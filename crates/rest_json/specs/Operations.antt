@@ -8,7 +8,7 @@ use Rattle.operations.specs.declared.operation.OpFault.{OpFault}
 use Rattle.operations.specs.declared.operation.OpFault.TheVariants as fault
 use Rattle.records.specs.declared.replies.OpView.{OpView}
 use Rattle.serde_json.specs.Data.{Data, null, boolean, string}
-use Rattle.row_machine.specs.shown.Links.{link_of}
+use Rattle.row_machine.specs.shown.Urls.{url_of}
 use Rattle.row_machine.specs.machine.TableRules.{status_text}
 use Rattle.rest_json.specs.Words.{status_code, error_text}
 use Rattle.rest_json.specs.Ids.{id_text}
@@ -29,10 +29,10 @@ resource_key Snapshot = codes "snapshots"
 resource_key Volume = codes "storage_volumes"
 resource_key other = codes "instances"
 
--- the object that an operation is about, by its link
+-- the object that an operation is about, by its URL
 unfoldable pub resources_data : OpView → Data
 resources_data operation = object_of (
-    (resource_key operation.target.kind, list_of (string (link_of operation.project operation.target) ∷ []))
+    (resource_key operation.target.kind, list_of (string (url_of operation.project operation.target) ∷ []))
     ∷ [])
 
 -- whether an operation of a status can still be cancelled

@@ -32,7 +32,7 @@ server_data = object_of (
     ∷ (codes "public", boolean false)
     ∷ [])
 
--- a project, with the links of what it has
+-- a project, with the URLs of what it has
 unfoldable pub project_data : Project → List (List ℕ) → Data
 project_data project used = object_of (
     (codes "config", settings_data project.config)
@@ -41,7 +41,7 @@ project_data project used = object_of (
     ∷ (codes "used_by", texts_data used)
     ∷ [])
 
--- a profile, with the links of the instances that name it
+-- a profile, with the URLs of the instances that name it
 unfoldable pub profile_data : Profile → List (List ℕ) → Data
 profile_data profile used = object_of (
     (codes "config", settings_data profile.config)
@@ -52,7 +52,7 @@ profile_data profile used = object_of (
     ∷ (codes "used_by", texts_data used)
     ∷ [])
 
--- a network, with the links of what names it
+-- a network, with the URLs of what names it
 unfoldable pub network_data : Network → List (List ℕ) → Data
 network_data network used = object_of (
     (codes "config", settings_data network.config)
@@ -64,7 +64,7 @@ network_data network used = object_of (
     ∷ (codes "used_by", texts_data used)
     ∷ [])
 
--- a pool, with the links of what names it and of its volumes
+-- a pool, with the URLs of what names it and of its volumes
 unfoldable pub pool_data : Pool → List (List ℕ) → Data
 pool_data pool used = object_of (
     (codes "config", settings_data pool.config)
@@ -74,7 +74,7 @@ pool_data pool used = object_of (
     ∷ (codes "used_by", texts_data used)
     ∷ [])
 
--- a volume, with the links of what names it
+-- a volume, with the URLs of what names it
 unfoldable pub volume_data : Volume → List (List ℕ) → Data
 volume_data volume used = object_of (
     (codes "config", settings_data volume.config)

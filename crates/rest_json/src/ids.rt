@@ -1,6 +1,6 @@
 //! The ids of operations: UUIDs of version 8 that hold the boot word and the number of the operation.
 ghost use Rattle.std.specs.Prelude.{◌≡◌, IfOk};
-ghost use Rattle.rest_json.specs.Ids.{high_half, low_half, id_bytes, id_text, operation_link, number_in};
+ghost use Rattle.rest_json.specs.Ids.{high_half, low_half, id_bytes, id_text, operation_url, number_in};
 ghost use Rattle.rest_json.specs.Ids.{number_in_bytes, number_of};
 
 use size_values::{NoMemory, Text};
@@ -42,15 +42,15 @@ pub fn id_text(alloc: Global, boot: u64, number: u64) -> Result<Text, NoMemory>
     Text::from_text(alloc, text)
 }
 
-/// The link of an operation.
-#[tactic(auto, unfolding(crate::specs::Ids::operation_link))]
-pub fn operation_link(alloc: Global, boot: u64, number: u64) -> Result<Text, NoMemory>
-    ensures { IfOk result (λ t. t ≡ operation_link boot number) }
+/// The URL of an operation.
+#[tactic(auto, unfolding(crate::specs::Ids::operation_url))]
+pub fn operation_url(alloc: Global, boot: u64, number: u64) -> Result<Text, NoMemory>
+    ensures { IfOk result (λ t. t ≡ operation_url boot number) }
 {
     let id = id_text(alloc, boot, number)?;
-    let mut link = String::from_str(alloc, "/1.0/operations/")?;
-    link.push_str(id.view())?;
-    Ok(Text::from_string(link))
+    let mut url = String::from_str(alloc, "/1.0/operations/")?;
+    url.push_str(id.view())?;
+    Ok(Text::from_string(url))
 }
 
 /// The number that the halves of an id name, where it is an id of this boot.

@@ -11,7 +11,7 @@ mod texts;
 mod views;
 mod words;
 
-pub use ids::{id_text, number_of, operation_link};
+pub use ids::{id_text, number_of, operation_url};
 pub use laws::ids_read_back;
 pub use moments::moment_text;
 pub use object::Object;

@@ -8,7 +8,7 @@ ghost use Rattle.operations.specs.declared.operation.OpFault.TheVariants as faul
 
 use crate::object::Object;
 use crate::words::{error_text, status_code, status_text};
-use object_links::link_of;
+use object_links::url_of;
 use records::{OpFault, OpView, Status};
 use serde_json::Value;
 use size_values::{NoMemory, ObjectKind};
@@ -76,16 +76,16 @@ fn one_text(alloc: Global, text: &str) -> Result<Value, NoMemory>
     Ok(Value::Array(values))
 }
 
-/// The object that an operation is about, by its link.
+/// The object that an operation is about, by its URL.
 #[tactic(auto, unfolding(crate::specs::Operations::resources_data))]
 fn resources_value(alloc: Global, operation: &OpView) -> Result<Value, NoMemory>
     ensures { IfOk result (λ v. view v ≡ resources_data operation.now) }
 {
-    let link = link_of(alloc, operation.project.view(), &operation.target)?;
-    let links = one_text(alloc, link.view());
-    drop(link);
-    let links = links?;
-    let object = Object::new(alloc).with(resource_key(operation.target.kind), links)?;
+    let url = url_of(alloc, operation.project.view(), &operation.target)?;
+    let urls = one_text(alloc, url.view());
+    drop(url);
+    let urls = urls?;
+    let object = Object::new(alloc).with(resource_key(operation.target.kind), urls)?;
     Ok(object.into_value())
 }
 

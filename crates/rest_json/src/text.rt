@@ -4,12 +4,12 @@ ghost use Rattle.json.specs.Print.{quoted};
 ghost use Rattle.serde_json.specs.Data.{boolean};
 ghost use Rattle.serde_json.specs.View.{view};
 ghost use Rattle.serde_json.specs.Written.{comma_if, compact_text, has_float};
-ghost use Rattle.rest_json.specs.Ids.{id_text, operation_link};
+ghost use Rattle.rest_json.specs.Ids.{id_text, operation_url};
 ghost use Rattle.rest_json.specs.Moments.{moment_text};
 ghost use Rattle.rest_json.specs.Objects.{whole};
 ghost use Rattle.rest_json.specs.Settings.{settings_data, devices_data, texts_data};
 
-use crate::ids::{id_text, operation_link};
+use crate::ids::{id_text, operation_url};
 use crate::moments::moment_text;
 use config_lists::{Config, Devices};
 use json::Writer;
@@ -135,12 +135,12 @@ impl JsonText {
         self.string(text.view())
     }
 
-    /// With the link of an operation.
-    pub fn link(self, boot: u64, number: u64) -> Result<JsonText, NoMemory>
-        ensures { IfOk result (λ t. t ≡ self ++ quoted (operation_link boot number)) }
+    /// With the URL of an operation.
+    pub fn url(self, boot: u64, number: u64) -> Result<JsonText, NoMemory>
+        ensures { IfOk result (λ t. t ≡ self ++ quoted (operation_url boot number)) }
     {
-        let link = operation_link(self.alloc, boot, number)?;
-        self.string(link.view())
+        let url = operation_url(self.alloc, boot, number)?;
+        self.string(url.view())
     }
 
     /// With a value that was made before.

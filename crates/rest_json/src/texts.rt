@@ -28,7 +28,7 @@ fn write_server(text: JsonText) -> Result<JsonText, NoMemory>
     )
 }
 
-/// A project, with the links of what it has.
+/// A project, with the URLs of what it has.
 #[tactic(auto, unfolding(crate::specs::Views::project_data, json::specs::Print::escape_byte))]
 fn write_project(text: JsonText, row: &Project, used: &Seq<Text>) -> Result<JsonText, NoMemory>
     ensures { IfOk result (λ t. t ≡ text ++ compact_text (project_data row.now used.now)) }
@@ -44,7 +44,7 @@ fn write_project(text: JsonText, row: &Project, used: &Seq<Text>) -> Result<Json
         .plain("}")
 }
 
-/// A profile, with the links of the instances that name it.
+/// A profile, with the URLs of the instances that name it.
 #[tactic(auto, unfolding(crate::specs::Views::profile_data, json::specs::Print::escape_byte))]
 fn write_profile(text: JsonText, row: &Profile, used: &Seq<Text>) -> Result<JsonText, NoMemory>
     ensures { IfOk result (λ t. t ≡ text ++ compact_text (profile_data row.now used.now)) }
@@ -64,7 +64,7 @@ fn write_profile(text: JsonText, row: &Profile, used: &Seq<Text>) -> Result<Json
         .plain("}")
 }
 
-/// A network, with the links of what names it.
+/// A network, with the URLs of what names it.
 #[tactic(auto, unfolding(crate::specs::Views::network_data, json::specs::Print::escape_byte))]
 fn write_network(text: JsonText, row: &Network, used: &Seq<Text>) -> Result<JsonText, NoMemory>
     ensures { IfOk result (λ t. t ≡ text ++ compact_text (network_data row.now used.now)) }
@@ -82,7 +82,7 @@ fn write_network(text: JsonText, row: &Network, used: &Seq<Text>) -> Result<Json
         .plain("}")
 }
 
-/// A pool, with the links of what names it and of its volumes.
+/// A pool, with the URLs of what names it and of its volumes.
 #[tactic(auto, unfolding(crate::specs::Views::pool_data, json::specs::Print::escape_byte))]
 fn write_pool(text: JsonText, row: &Pool, used: &Seq<Text>) -> Result<JsonText, NoMemory>
     ensures { IfOk result (λ t. t ≡ text ++ compact_text (pool_data row.now used.now)) }
@@ -100,7 +100,7 @@ fn write_pool(text: JsonText, row: &Pool, used: &Seq<Text>) -> Result<JsonText, 
         .plain("}")
 }
 
-/// A volume, with the links of what names it.
+/// A volume, with the URLs of what names it.
 #[tactic(auto, unfolding(crate::specs::Views::volume_data, json::specs::Print::escape_byte))]
 fn write_volume(text: JsonText, row: &Volume, used: &Seq<Text>) -> Result<JsonText, NoMemory>
     ensures { IfOk result (λ t. t ≡ text ++ compact_text (volume_data row.now used.now)) }

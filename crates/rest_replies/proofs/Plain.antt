@@ -1,62 +1,62 @@
 -- What is made before it is written, and notices, have no number with a fraction, so each has the compact text.
 use Rattle.std.proofs.Common.{◌≡◌, ℕ, List, [], ◌∷◌, false, codes, refl}
 use Rattle.operations.specs.declared.status.Status.{Status}
-use Rattle.records.specs.declared.refusals.Kept.{Kept}
+use Rattle.records.specs.declared.refusals.Details.{Details}
 use Rattle.records.specs.declared.refusals.Refusal.{Refusal}
 use Rattle.records.specs.declared.replies.OpView.{OpView}
-use Rattle.records.specs.declared.notices.Told.{Told}
-use Rattle.records.specs.declared.notices.Told.TheVariants as told
+use Rattle.records.specs.declared.notices.EventBody.{EventBody}
+use Rattle.records.specs.declared.notices.EventBody.TheVariants as body
 use Rattle.records.specs.declared.notices.Notice.{Notice}
 use Rattle.serde_json.specs.Data.{Data, string, Members, no_members, put}
 use Rattle.serde_json.specs.Written.{has_float, members_have_float}
 use Rattle.rest_replies.specs.declared.refusals.Part.{Part}
 use Rattle.rest_replies.specs.declared.refusals.Part.TheVariants as part
 use Rattle.rest_json.specs.Words.{status_key}
-use Rattle.rest_json.specs.Ids.{operation_link}
+use Rattle.rest_json.specs.Ids.{operation_url}
 use Rattle.rest_json.specs.Operations.{operation_data}
-use Rattle.rest_replies.specs.Refusals.{rule_name, kept_parts, part_key, part_data, put_parts, kept_data, refusal_data}
-use Rattle.rest_replies.specs.Replies.{links_data, put_links, by_status, operations_data, put_operations, whole_by_status}
-use Rattle.rest_replies.specs.Notices.{life_data, told_data, notice_data}
+use Rattle.rest_replies.specs.Refusals.{rule_name, details_parts, part_key, part_data, put_parts, details_data, refusal_data}
+use Rattle.rest_replies.specs.Replies.{urls_data, put_urls, by_status, operations_data, put_operations, whole_by_status}
+use Rattle.rest_replies.specs.Notices.{life_data, event_data, notice_data}
 use Rattle.rest_json.proofs.Floatless.{put_plain, items_plain}
 use Rattle.rest_json.proofs.ViewsPlain.{operation_plain}
 
 -- ---- refusals
 
-part_plain : (kept : Kept) (p : Part) → has_float (part_data kept p) ≡ false
-part_plain kept part.Asked = refl
-part_plain kept part.Key = refl
-part_plain kept part.Kind = refl
-part_plain kept part.Limit = refl
-part_plain kept part.Name = refl
-part_plain kept part.Number = refl
-part_plain kept part.Project = refl
-part_plain kept part.Used = refl
+part_plain : (details : Details) (p : Part) → has_float (part_data details p) ≡ false
+part_plain details part.Asked = refl
+part_plain details part.Key = refl
+part_plain details part.Kind = refl
+part_plain details part.Limit = refl
+part_plain details part.Name = refl
+part_plain details part.Number = refl
+part_plain details part.Project = refl
+part_plain details part.Used = refl
 
-put_parts_plain : (kept : Kept) (parts : List Part) (ms : Members) → members_have_float ms ≡ false → members_have_float (put_parts kept parts ms) ≡ false
-put_parts_plain kept [] ms all = all
-put_parts_plain kept (x ∷ xs) ms all = put_parts_plain kept xs (put (part_key x) (part_data kept x) ms) (put_plain (part_key x) (part_data kept x) ms (part_plain kept x) all)
+put_parts_plain : (details : Details) (parts : List Part) (ms : Members) → members_have_float ms ≡ false → members_have_float (put_parts details parts ms) ≡ false
+put_parts_plain details [] ms all = all
+put_parts_plain details (x ∷ xs) ms all = put_parts_plain details xs (put (part_key x) (part_data details x) ms) (put_plain (part_key x) (part_data details x) ms (part_plain details x) all)
 
-kept_plain : (r : Refusal) → has_float (kept_data r) ≡ false
-unfolding kept_data
-kept_plain r = put_parts_plain r.kept (kept_parts r.rule) (put (codes "rule") (string (rule_name r.rule)) no_members) refl
+details_plain : (r : Refusal) → has_float (details_data r) ≡ false
+unfolding details_data
+details_plain r = put_parts_plain r.details (details_parts r.rule) (put (codes "rule") (string (rule_name r.rule)) no_members) refl
 
 pub refusal_plain : (r : Refusal) → has_float (refusal_data r) ≡ false
 unfolding refusal_data
-refusal_plain r = rw (kept_plain r) refl
+refusal_plain r = rw (details_plain r) refl
 
 -- ---- replies
 
-links_plain : (boot : ℕ) (numbers : List ℕ) → has_float (links_data boot numbers) ≡ false
-unfolding links_data
-links_plain boot numbers = items_plain (λ (number : ℕ). string (operation_link boot number)) numbers (λ number. refl)
+urls_plain : (boot : ℕ) (numbers : List ℕ) → has_float (urls_data boot numbers) ≡ false
+unfolding urls_data
+urls_plain boot numbers = items_plain (λ (number : ℕ). string (operation_url boot number)) numbers (λ number. refl)
 
-put_links_plain : (boot : ℕ) (groups : List (Status × List ℕ)) (ms : Members) → members_have_float ms ≡ false → members_have_float (put_links boot groups ms) ≡ false
-put_links_plain boot [] ms all = all
-put_links_plain boot (x ∷ xs) ms all = put_links_plain boot xs (put (status_key x.0) (links_data boot x.1) ms) (put_plain (status_key x.0) (links_data boot x.1) ms (links_plain boot x.1) all)
+put_urls_plain : (boot : ℕ) (groups : List (Status × List ℕ)) (ms : Members) → members_have_float ms ≡ false → members_have_float (put_urls boot groups ms) ≡ false
+put_urls_plain boot [] ms all = all
+put_urls_plain boot (x ∷ xs) ms all = put_urls_plain boot xs (put (status_key x.0) (urls_data boot x.1) ms) (put_plain (status_key x.0) (urls_data boot x.1) ms (urls_plain boot x.1) all)
 
 pub by_status_plain : (boot : ℕ) (groups : List (Status × List ℕ)) → has_float (by_status boot groups) ≡ false
 unfolding by_status
-by_status_plain boot groups = put_links_plain boot groups no_members refl
+by_status_plain boot groups = put_urls_plain boot groups no_members refl
 
 operations_plain : (boot : ℕ) (operations : List OpView) → has_float (operations_data boot operations) ≡ false
 unfolding operations_data
@@ -72,11 +72,11 @@ whole_by_status_plain boot groups = put_operations_plain boot groups no_members 
 
 -- ---- notices
 
-told_plain : (boot : ℕ) (t : Told) → has_float (told_data boot t) ≡ false
+event_plain : (boot : ℕ) (t : EventBody) → has_float (event_data boot t) ≡ false
 unfolding life_data
-told_plain boot (told.Life action source) = refl
-told_plain boot (told.Op operation) = operation_plain boot operation
+event_plain boot (body.Life action source) = refl
+event_plain boot (body.Op operation) = operation_plain boot operation
 
 pub notice_plain : (boot : ℕ) (n : Notice) → has_float (notice_data boot n) ≡ false
 unfolding notice_data
-notice_plain boot n = rw (told_plain boot n.told) refl
+notice_plain boot n = rw (event_plain boot n.body) refl

@@ -2,8 +2,8 @@
 use Rattle.std.specs.Prelude.{ℕ, List, [], ◌∷◌, codes}
 use Rattle.records.specs.declared.notices.Life.{Life}
 use Rattle.records.specs.declared.notices.Life.TheVariants as life
-use Rattle.records.specs.declared.notices.Told.{Told}
-use Rattle.records.specs.declared.notices.Told.TheVariants as told
+use Rattle.records.specs.declared.notices.EventBody.{EventBody}
+use Rattle.records.specs.declared.notices.EventBody.TheVariants as body
 use Rattle.records.specs.declared.notices.Notice.{Notice}
 use Rattle.serde_json.specs.Data.{Data, string}
 use Rattle.serde_json.specs.Written.{compact_text}
@@ -46,11 +46,11 @@ life_text life.SnapshotCreated = codes "instance-snapshot-created"
 life_text life.SnapshotDeleted = codes "instance-snapshot-deleted"
 
 -- the type of a notice
-abbrev pub told_type : Told → List ℕ
-told_type (told.Life action source) = codes "lifecycle"
-told_type (told.Op operation) = codes "operation"
+abbrev pub event_type : EventBody → List ℕ
+event_type (body.Life action source) = codes "lifecycle"
+event_type (body.Op operation) = codes "operation"
 
--- an action, with the link of its object
+-- an action, with the URL of its object
 unfoldable pub life_data : Life → List ℕ → Data
 life_data action source = object_of (
     (codes "action", string (life_text action))
@@ -58,17 +58,17 @@ life_data action source = object_of (
     ∷ [])
 
 -- what a notice tells: an action, or an operation as it stands
-abbrev pub told_data : ℕ → Told → Data
-told_data boot (told.Life action source) = life_data action source
-told_data boot (told.Op operation) = operation_data boot operation
+abbrev pub event_data : ℕ → EventBody → Data
+event_data boot (body.Life action source) = life_data action source
+event_data boot (body.Op operation) = operation_data boot operation
 
 -- a notice as an object
 unfoldable pub notice_data : ℕ → Notice → Data
 notice_data boot notice = object_of (
-    (codes "metadata", told_data boot notice.told)
+    (codes "metadata", event_data boot notice.body)
     ∷ (codes "project", string notice.project)
     ∷ (codes "timestamp", string (moment_text notice.moment))
-    ∷ (codes "type", string (told_type notice.told))
+    ∷ (codes "type", string (event_type notice.body))
     ∷ [])
 
 -- a notice as a text

@@ -8,7 +8,7 @@ use Rattle.records.specs.declared.refusals.Rule.TheVariants.{V1, V2, V3, V4, V5,
 use Rattle.records.specs.declared.refusals.Rule.TheVariants.{F4, F5, F6, F7, F8, L0, L1}
 use Rattle.records.specs.declared.refusals.Rule.TheVariants.{L2, L3, L4, L5, L6, L7, L8, O1}
 use Rattle.records.specs.declared.refusals.Rule.TheVariants.{O2, O3, O4, O5, C1, C2, K1, M1}
-use Rattle.records.specs.declared.refusals.Kept.{Kept}
+use Rattle.records.specs.declared.refusals.Details.{Details}
 use Rattle.records.specs.declared.refusals.Refusal.{Refusal}
 use Rattle.rest_replies.specs.declared.refusals.Part.{Part}
 use Rattle.rest_replies.specs.declared.refusals.Part.TheVariants as part
@@ -104,8 +104,8 @@ abbrev pub rule_code : Rule → ℕ
 rule_code rule = (rule_line rule).code
 
 -- what is told with a rule
-abbrev pub kept_parts : Rule → List Part
-kept_parts rule = (rule_line rule).parts
+abbrev pub details_parts : Rule → List Part
+details_parts rule = (rule_line rule).parts
 
 -- ---- the parts
 
@@ -121,24 +121,25 @@ part_key part.Project = codes "project"
 part_key part.Used = codes "used"
 
 -- a part: a number, the decimal digits of an amount, or a text
-abbrev pub part_data : Kept → Part → Data
-part_data kept part.Asked = string (decimal kept.asked)
-part_data kept part.Key = string kept.key
-part_data kept part.Kind = string kept.kind
-part_data kept part.Limit = string (decimal kept.limit)
-part_data kept part.Name = string kept.name
-part_data kept part.Number = whole kept.number
-part_data kept part.Project = string kept.project
-part_data kept part.Used = string (decimal kept.used)
+abbrev pub part_data : Details → Part → Data
+part_data details part.Asked = string (decimal details.asked)
+part_data details part.Key = string details.key
+part_data details part.Kind = string details.kind
+part_data details part.Limit = string (decimal details.limit)
+part_data details part.Name = string details.name
+part_data details part.Number = whole details.number
+part_data details part.Project = string details.project
+part_data details part.Used = string (decimal details.used)
 
 -- parts put one after the other into an object
-abbrev pub put_parts : Kept → List Part → Members → Members
-put_parts kept [] members = members
-put_parts kept (part ∷ parts) members = put_parts kept parts (put (part_key part) (part_data kept part) members)
+abbrev pub put_parts : Details → List Part → Members → Members
+put_parts details [] members = members
+put_parts details (part ∷ parts) members =
+    put_parts details parts (put (part_key part) (part_data details part) members)
 
 -- the rule, and what is told with it
-unfoldable pub kept_data : Refusal → Data
-kept_data refusal = object (put_parts refusal.kept (kept_parts refusal.rule)
+unfoldable pub details_data : Refusal → Data
+details_data refusal = object (put_parts refusal.details (details_parts refusal.rule)
     (put (codes "rule") (string (rule_name refusal.rule)) no_members))
 
 -- a refusal
@@ -146,6 +147,6 @@ unfoldable pub refusal_data : Refusal → Data
 refusal_data refusal = object_of (
     (codes "error", string (rule_text refusal.rule))
     ∷ (codes "error_code", whole (rule_code refusal.rule))
-    ∷ (codes "metadata", kept_data refusal)
+    ∷ (codes "metadata", details_data refusal)
     ∷ (codes "type", string (codes "error"))
     ∷ [])

@@ -12,9 +12,9 @@ use Rattle.records.specs.declared.replies.View.{View}
 use Rattle.records.specs.declared.replies.View.TheVariants as view
 use Rattle.serde_json.specs.Data.{Data, string, object, Members, no_members, put}
 use Rattle.serde_json.specs.Written.{compact_text}
-use Rattle.row_machine.specs.machine.Refusals.{nothing_told}
+use Rattle.row_machine.specs.machine.Refusals.{no_details}
 use Rattle.rest_json.specs.Words.{status_key}
-use Rattle.rest_json.specs.Ids.{operation_link}
+use Rattle.rest_json.specs.Ids.{operation_url}
 use Rattle.rest_json.specs.Objects.{object_of, list_of, whole}
 use Rattle.rest_json.specs.Settings.{texts_data}
 use Rattle.rest_json.specs.Operations.{operation_data}
@@ -34,25 +34,25 @@ success_data told = object_of (
 unfoldable pub started_data : ℕ → OpView → Data
 started_data boot operation = object_of (
     (codes "metadata", operation_data boot operation)
-    ∷ (codes "operation", string (operation_link boot operation.number))
+    ∷ (codes "operation", string (operation_url boot operation.number))
     ∷ (codes "status", string (codes "Operation created"))
     ∷ (codes "status_code", whole 100)
     ∷ (codes "type", string (codes "async"))
     ∷ [])
 
--- operations by their links
-unfoldable pub links_data : ℕ → List ℕ → Data
-links_data boot numbers = list_of (map (λ number. string (operation_link boot number)) numbers)
+-- operations by their URLs
+unfoldable pub urls_data : ℕ → List ℕ → Data
+urls_data boot numbers = list_of (map (λ number. string (operation_url boot number)) numbers)
 
--- the links of operations put by status into an object
-abbrev pub put_links : ℕ → List (Status × List ℕ) → Members → Members
-put_links boot [] members = members
-put_links boot (group ∷ groups) members =
-    put_links boot groups (put (status_key group.0) (links_data boot group.1) members)
+-- the URLs of operations put by status into an object
+abbrev pub put_urls : ℕ → List (Status × List ℕ) → Members → Members
+put_urls boot [] members = members
+put_urls boot (group ∷ groups) members =
+    put_urls boot groups (put (status_key group.0) (urls_data boot group.1) members)
 
--- the links of operations by status
+-- the URLs of operations by status
 unfoldable pub by_status : ℕ → List (Status × List ℕ) → Data
-by_status boot groups = object (put_links boot groups no_members)
+by_status boot groups = object (put_urls boot groups no_members)
 
 -- operations as objects
 unfoldable pub operations_data : ℕ → List OpView → Data
@@ -70,12 +70,12 @@ whole_by_status boot groups = object (put_operations boot groups no_members)
 
 -- the refusal where there is no memory
 abbrev pub no_memory_refusal : Refusal
-no_memory_refusal = record { rule = rule.M1; kept = nothing_told }
+no_memory_refusal = record { rule = rule.M1; details = no_details }
 
 -- the body of a reply
 abbrev pub reply_data : ℕ → Reply → Data
 reply_data boot reply.Empty = success_data (object no_members)
-reply_data boot (reply.Links links) = success_data (texts_data links)
+reply_data boot (reply.Links urls) = success_data (texts_data urls)
 reply_data boot (reply.One shown) = success_data (view_data boot shown)
 reply_data boot (reply.Many views) = success_data (list_of (map (view_data boot) views))
 reply_data boot (reply.OpLinks groups) = success_data (by_status boot groups)
@@ -93,7 +93,7 @@ reply_code other = 200
 
 -- the Location of a reply, which only the start of an operation has
 abbrev pub reply_location : ℕ → Reply → List ℕ
-reply_location boot (reply.Started operation) = operation_link boot operation.number
+reply_location boot (reply.Started operation) = operation_url boot operation.number
 reply_location boot other = []
 
 -- a reply as it is printed; the connection may end after it

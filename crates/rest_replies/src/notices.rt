@@ -1,9 +1,9 @@
 //! Notices as JSON.
 ghost use Rattle.std.specs.Prelude.{◌≡◌, IfOk};
 ghost use Rattle.serde_json.specs.View.{view};
-ghost use Rattle.rest_replies.specs.Notices.{life_text, told_type, life_data, told_data, notice_data, notice_text};
+ghost use Rattle.rest_replies.specs.Notices.{life_text, event_type, life_data, event_data, notice_data, notice_text};
 
-use records::{Life, Notice, Told};
+use records::{EventBody, Life, Notice};
 use rest_json::{Object, operation_value};
 use serde_json::Value;
 use size_values::{NoMemory, Text};
@@ -49,16 +49,16 @@ fn life_text(action: Life) -> &'static str
 }
 
 /// The type of a notice.
-fn told_type(told: &Told) -> &'static str
-    ensures { result.now ≡ told_type told.now }
+fn event_type(body: &EventBody) -> &'static str
+    ensures { result.now ≡ event_type body.now }
 {
-    match told {
-        Told::Life { .. } => "lifecycle",
-        Told::Op(_) => "operation",
+    match body {
+        EventBody::Life { .. } => "lifecycle",
+        EventBody::Op(_) => "operation",
     }
 }
 
-/// An action, with the link of its object.
+/// An action, with the URL of its object.
 #[tactic(auto, unfolding(crate::specs::Notices::life_data))]
 fn life_value(alloc: Global, action: Life, source: &Text) -> Result<Value, NoMemory>
     ensures { IfOk result (λ v. view v ≡ life_data action source.now) }
@@ -70,12 +70,12 @@ fn life_value(alloc: Global, action: Life, source: &Text) -> Result<Value, NoMem
 }
 
 /// What a notice tells: an action, or an operation as it stands.
-fn told_value(alloc: Global, boot: u64, told: &Told) -> Result<Value, NoMemory>
-    ensures { IfOk result (λ v. view v ≡ told_data boot told.now) }
+fn event_value(alloc: Global, boot: u64, body: &EventBody) -> Result<Value, NoMemory>
+    ensures { IfOk result (λ v. view v ≡ event_data boot body.now) }
 {
-    match told {
-        Told::Life { action, source } => life_value(alloc, *action, source),
-        Told::Op(operation) => operation_value(alloc, boot, operation),
+    match body {
+        EventBody::Life { action, source } => life_value(alloc, *action, source),
+        EventBody::Op(operation) => operation_value(alloc, boot, operation),
     }
 }
 
@@ -84,12 +84,12 @@ fn told_value(alloc: Global, boot: u64, told: &Told) -> Result<Value, NoMemory>
 fn notice_value(alloc: Global, notice: &Notice, boot: u64) -> Result<Value, NoMemory>
     ensures { IfOk result (λ v. view v ≡ notice_data boot notice.now) }
 {
-    let told = told_value(alloc, boot, &notice.told)?;
+    let metadata = event_value(alloc, boot, &notice.body)?;
     let object = Object::new(alloc)
-        .with("metadata", told)?
+        .with("metadata", metadata)?
         .with_text("project", notice.project.view())?
         .with_moment("timestamp", notice.moment)?
-        .with_text("type", told_type(&notice.told))?;
+        .with_text("type", event_type(&notice.body))?;
     Ok(object.into_value())
 }
 

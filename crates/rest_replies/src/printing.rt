@@ -8,15 +8,15 @@ ghost use Rattle.rest_json.specs.Objects.{list_of};
 ghost use Rattle.rest_json.specs.Settings.{texts_data};
 ghost use Rattle.rest_json.specs.Views.{view_data};
 ghost use Rattle.rest_replies.specs.Refusals.{refusal_data};
-ghost use Rattle.rest_replies.specs.Replies.{success_data, started_data, links_data, by_status, operations_data};
+ghost use Rattle.rest_replies.specs.Replies.{success_data, started_data, urls_data, by_status, operations_data};
 ghost use Rattle.rest_replies.specs.Replies.{whole_by_status, no_memory_refusal, reply_data, reply_code};
 ghost use Rattle.rest_replies.specs.Replies.{reply_location, printed_of};
 
 use crate::refusals::{refusal_value, rule_code};
 use http_front::Printed;
-use records::{Kept, OpView, Refusal, Reply, Rule, Status, View};
+use records::{Details, OpView, Refusal, Reply, Rule, Status, View};
 use rest_json::{
-    JsonText, Object, operation_link, operation_value, status_key, write_operation, write_view,
+    JsonText, Object, operation_url, operation_value, status_key, write_operation, write_view,
 };
 use serde_json::Value;
 use size_values::{NoMemory, Seq, Text};
@@ -50,13 +50,13 @@ fn empty_body(alloc: Global) -> Result<Seq<u8>, NoMemory>
     Ok(text.into_bytes())
 }
 
-/// The reply that tells links.
-fn links_body(alloc: Global, links: &Seq<Text>) -> Result<Seq<u8>, NoMemory>
-    ensures { IfOk result (λ b. b ≡ compact_text (success_data (texts_data links.now))) }
+/// The reply that tells URLs.
+fn urls_body(alloc: Global, urls: &Seq<Text>) -> Result<Seq<u8>, NoMemory>
+    ensures { IfOk result (λ b. b ≡ compact_text (success_data (texts_data urls.now))) }
 {
     let text = JsonText::new(alloc, 1_024)?
         .plain(FRONT)?
-        .texts(links)?
+        .texts(urls)?
         .plain(BACK)?;
     Ok(text.into_bytes())
 }
@@ -106,32 +106,32 @@ fn started_body(alloc: Global, boot: u64, operation: &OpView) -> Result<Seq<u8>,
     let front = JsonText::new(alloc, 1_024)?.plain(FRONT)?;
     let text = write_operation(front, alloc, boot, operation)?
         .plain(",\"operation\":")?
-        .link(boot, operation.number)?
+        .url(boot, operation.number)?
         .plain(",\"status\":\"Operation created\",\"status_code\":100,\"type\":\"async\"}")?;
     Ok(text.into_bytes())
 }
 
-/// Operations by their links.
-#[tactic(auto, unfolding(crate::specs::Replies::links_data))]
-fn links_value(alloc: Global, boot: u64, numbers: &Seq<u64>) -> Result<Value, NoMemory>
-    ensures { IfOk result (λ v. view v ≡ links_data boot numbers.now) }
+/// Operations by their URLs.
+#[tactic(auto, unfolding(crate::specs::Replies::urls_data))]
+fn urls_value(alloc: Global, boot: u64, numbers: &Seq<u64>) -> Result<Value, NoMemory>
+    ensures { IfOk result (λ v. view v ≡ urls_data boot numbers.now) }
 {
     let mut values = Vec::new(alloc);
     for number in numbers.view() {
-        let link = operation_link(alloc, boot, *number)?;
-        values.push(Value::String(String::from_str(alloc, link.view())?))?;
+        let url = operation_url(alloc, boot, *number)?;
+        values.push(Value::String(String::from_str(alloc, url.view())?))?;
     }
     Ok(Value::Array(values))
 }
 
-/// The links of operations by status.
+/// The URLs of operations by status.
 #[tactic(auto, unfolding(crate::specs::Replies::by_status))]
 fn by_status(alloc: Global, boot: u64, groups: &Seq<(Status, Seq<u64>)>) -> Result<Value, NoMemory>
     ensures { IfOk result (λ v. view v ≡ by_status boot groups.now) }
 {
     let mut object = Object::new(alloc);
     for group in groups.view() {
-        object.put(status_key(group.0), links_value(alloc, boot, &group.1)?)?;
+        object.put(status_key(group.0), urls_value(alloc, boot, &group.1)?)?;
     }
     Ok(object.into_value())
 }
@@ -173,7 +173,7 @@ fn no_memory_refusal(alloc: Global) -> Refusal
 {
     Refusal {
         rule: Rule::M1,
-        kept: Kept {
+        details: Details {
             kind: Text::new(alloc),
             project: Text::new(alloc),
             name: Text::new(alloc),
@@ -186,7 +186,7 @@ fn no_memory_refusal(alloc: Global) -> Refusal
     }
 }
 
-/// The reply that tells operations by status, by their links.
+/// The reply that tells operations by status, by their URLs.
 #[tactic(auto, using(crate::proofs::Plain::by_status_plain))]
 fn by_status_body(
     alloc: Global,
@@ -229,7 +229,7 @@ fn reply_body(alloc: Global, boot: u64, reply: &Reply) -> Result<Seq<u8>, NoMemo
 {
     match reply {
         Reply::Empty => empty_body(alloc),
-        Reply::Links(links) => links_body(alloc, links),
+        Reply::Links(urls) => urls_body(alloc, urls),
         Reply::One(shown) => one_body(alloc, boot, shown),
         Reply::Many(views) => many_body(alloc, boot, views),
         Reply::OpLinks(groups) => by_status_body(alloc, boot, groups),
@@ -263,7 +263,7 @@ fn reply_location(alloc: Global, boot: u64, reply: &Reply) -> Result<Text, NoMem
     ensures { IfOk result (λ t. t ≡ reply_location boot reply.now) }
 {
     match reply {
-        Reply::Started(operation) => operation_link(alloc, boot, operation.number),
+        Reply::Started(operation) => operation_url(alloc, boot, operation.number),
         Reply::Empty
         | Reply::Links(_)
         | Reply::One(_)

@@ -4,9 +4,9 @@ ghost use Rattle.http_front.specs.Replies.{is_reply_code};
 ghost use Rattle.serde_json.specs.Data.{string};
 ghost use Rattle.serde_json.specs.View.{view};
 ghost use Rattle.rest_replies.specs.Refusals.{line, rule_line, rule_name, rule_code, part_key, part_data};
-ghost use Rattle.rest_replies.specs.Refusals.{kept_data, refusal_data};
+ghost use Rattle.rest_replies.specs.Refusals.{details_data, refusal_data};
 
-use records::{Kept, Refusal, Rule};
+use records::{Details, Refusal, Rule};
 use rest_json::Object;
 use serde_json::Value;
 use size_values::NoMemory;
@@ -179,31 +179,31 @@ fn amount_value(alloc: Global, amount: u128) -> Result<Value, NoMemory>
 }
 
 /// A part: a number, the decimal digits of an amount, or a text.
-fn part_value(alloc: Global, kept: &Kept, part: Part) -> Result<Value, NoMemory>
-    ensures { IfOk result (λ v. view v ≡ part_data kept.now part) }
+fn part_value(alloc: Global, details: &Details, part: Part) -> Result<Value, NoMemory>
+    ensures { IfOk result (λ v. view v ≡ part_data details.now part) }
 {
     match part {
-        Part::Asked => amount_value(alloc, kept.asked),
-        Part::Key => text_value(alloc, kept.key.view()),
-        Part::Kind => text_value(alloc, kept.kind.view()),
-        Part::Limit => amount_value(alloc, kept.limit),
-        Part::Name => text_value(alloc, kept.name.view()),
-        Part::Number => Ok(Value::from(kept.number)),
-        Part::Project => text_value(alloc, kept.project.view()),
-        Part::Used => amount_value(alloc, kept.used),
+        Part::Asked => amount_value(alloc, details.asked),
+        Part::Key => text_value(alloc, details.key.view()),
+        Part::Kind => text_value(alloc, details.kind.view()),
+        Part::Limit => amount_value(alloc, details.limit),
+        Part::Name => text_value(alloc, details.name.view()),
+        Part::Number => Ok(Value::from(details.number)),
+        Part::Project => text_value(alloc, details.project.view()),
+        Part::Used => amount_value(alloc, details.used),
     }
 }
 
 /// The rule, and what is told with it.
-#[tactic(auto, unfolding(crate::specs::Refusals::kept_data))]
-fn kept_value(alloc: Global, refusal: &Refusal) -> Result<Value, NoMemory>
-    ensures { IfOk result (λ v. view v ≡ kept_data refusal.now) }
+#[tactic(auto, unfolding(crate::specs::Refusals::details_data))]
+fn details_value(alloc: Global, refusal: &Refusal) -> Result<Value, NoMemory>
+    ensures { IfOk result (λ v. view v ≡ details_data refusal.now) }
 {
     let mut object = Object::new(alloc);
     let line = rule_line(refusal.rule);
     object.put_text("rule", line.name)?;
     for part in line.parts {
-        object.put(part_key(*part), part_value(alloc, &refusal.kept, *part)?)?;
+        object.put(part_key(*part), part_value(alloc, &refusal.details, *part)?)?;
     }
     Ok(object.into_value())
 }
@@ -217,7 +217,9 @@ pub(crate) fn refusal_value(alloc: Global, refusal: &Refusal) -> Result<Value, N
     let object = Object::new(alloc)
         .with_text("error", line.text)?
         .with_number("error_code", u64::from(line.code))?;
-    let kept = kept_value(alloc, refusal)?;
-    let object = object.with("metadata", kept)?.with_text("type", "error")?;
+    let details = details_value(alloc, refusal)?;
+    let object = object
+        .with("metadata", details)?
+        .with_text("type", "error")?;
     Ok(object.into_value())
 }

@@ -9,7 +9,7 @@ use Rattle.records.specs.declared.refusals.Rule.TheVariants as rule
 use Rattle.records.specs.declared.refusals.Refusal.{Refusal}
 use Rattle.rest_routes.specs.Answers.{followed}
 use Rattle.rest_routes.specs.Paths.{path_of, query_of}
-use Rattle.rest_routes.specs.Places.{line_of, verb_of, verb_offered}
+use Rattle.rest_routes.specs.Endpoints.{line_of, verb_of, verb_offered}
 use Rattle.rest_routes.specs.Queries.{project_of}
 use Rattle.rest_routes.proofs.Server.{server-stands, nothing-said}
 use Rattle.rest_routes.specs.Commands.{command_at, command_of, sent_body}
@@ -21,14 +21,14 @@ abbrev asked-by : List ℕ → List ℕ → List ℕ → ℕ → Result Command 
 asked-by method target body boot =
     followed (needed rule.A1 (line_of (path_of target))) (λ line.
     followed (needed rule.A2 (verb_offered line method)) (λ verb.
-    command_at line.place verb (path_of target) (query_of target) (sent_body verb body) boot))
+    command_at line.endpoint verb (path_of target) (query_of target) (sent_body verb body) boot))
 
 by-get : (body : List ℕ) (boot : ℕ) → asked-by (codes "GET") (codes "/1.0") body boot ≡ Ok server_asked
 unfolding path_of query_of verb_offered verb_of command_at
 by-get body boot =
     ap (λ found. followed (needed rule.A1 found) (λ line.
     followed (needed rule.A2 (verb_offered line (codes "GET"))) (λ verb.
-    command_at line.place verb (codes "/1.0") [] (sent_body verb body) boot))) server-stands
+    command_at line.endpoint verb (codes "/1.0") [] (sent_body verb body) boot))) server-stands
     ∙ ap (λ said. followed said (λ query. Ok (record { project = project_of query; what = what.Server }))) nothing-said
 
 both : (a b : Bool) → (a && b) ≡ true → (a ≡ true) × (b ≡ true)

@@ -11,10 +11,10 @@ use Rattle.records.specs.declared.refusals.Rule.TheVariants as rule
 use Rattle.rest_routes.proofs.Timeouts.{timeout_formed}
 use Rattle.rest_routes.specs.Answers.{Gives, mapped, followed}
 use Rattle.rest_routes.specs.Paths.{path_of, query_of}
-use Rattle.rest_routes.specs.Places.{line_of, verb_offered}
+use Rattle.rest_routes.specs.Endpoints.{line_of, verb_offered}
 use Rattle.rest_routes.specs.Queries.{query_from_text, project_of, wait_timeout}
-use Rattle.rest_routes.specs.declared.places.Place.{Place}
-use Rattle.rest_routes.specs.declared.places.Verb.{Verb}
+use Rattle.rest_routes.specs.declared.endpoints.Endpoint.{Endpoint}
+use Rattle.rest_routes.specs.declared.endpoints.Verb.{Verb}
 use Rattle.rest_routes.specs.Commands.{sent_body, command_at, command_of}
 use Rattle.rest_routes.specs.Routed.{RoutedIsFormed}
 use Rattle.rest_routes.specs.WithBody.{needed}
@@ -40,18 +40,18 @@ after_any : {A : Type 0} (r : Result A Refusal) (f : A → Result Command Refusa
 after_any (Ok x) f fine = fine x
 after_any (Err refusal) f fine = tt
 
-at_place : (place : Place) (verb : Verb) (path query_text : List ℕ) (sent : Option Data) (boot : ℕ) → CommandIsFormed (command_at place verb path query_text sent boot)
+at_endpoint : (endpoint : Endpoint) (verb : Verb) (path query_text : List ℕ) (sent : Option Data) (boot : ℕ) → CommandIsFormed (command_at endpoint verb path query_text sent boot)
 unfolding command_at
-at_place place verb path query_text sent boot =
+at_endpoint endpoint verb path query_text sent boot =
     after_good (λ query. is_timeout (wait_timeout query) ≡ true) (query_from_text query_text) _ (timeout_formed query_text) (λ query time.
-    in_project (project_of query) _ (asked_formed place verb path query boot sent time))
+    in_project (project_of query) _ (asked_formed endpoint verb path query boot sent time))
 
 pub routed_formed : RoutedIsFormed
 unfolding command_of
 routed_formed request boot =
     after_any (needed rule.A1 (line_of (path_of request.target))) _ (λ line.
     after_any (needed rule.A2 (verb_offered line request.method)) _ (λ verb.
-    at_place line.place verb (path_of request.target) (query_of request.target) (sent_body verb request.body) boot))
+    at_endpoint line.endpoint verb (path_of request.target) (query_of request.target) (sent_body verb request.body) boot))
 
 -- a command that a function returns is formed
 pub formed_due : (result : Result Command (Or Refusal)) (request : Request) (boot : ℕ) → Gives result (command_of request boot) → IfOk result (λ c. IsTrue (is_formed c))

@@ -1,4 +1,4 @@
--- What a request asks for at its place is formed, whether it sends a body or not.
+-- What a request asks for at its endpoint is formed, whether it sends a body or not.
 use Rattle.std.proofs.Common.{◌≡◌, ℕ, Bool, true, false, List, [], Option, Some, None, Result, Ok, Err, IfOk, refl, cond}
 use Rattle.std.specs.Prelude.{is_some}
 use Rattle.serde_json.specs.Data.{Data}
@@ -17,12 +17,12 @@ use Rattle.rest_bodies.specs.declared.fields.Shape.{Shape}
 use Rattle.rest_bodies.specs.declared.fields.Shape.TheVariants as shape
 use Rattle.rest_routes.specs.Answers.{mapped, followed}
 use Rattle.rest_routes.specs.Paths.{pool_of}
-use Rattle.rest_routes.specs.Places.{has_body}
+use Rattle.rest_routes.specs.Endpoints.{has_body}
 use Rattle.rest_routes.specs.Queries.{wait_timeout}
-use Rattle.rest_routes.specs.declared.places.Place.{Place}
-use Rattle.rest_routes.specs.declared.places.Place.TheVariants as place
-use Rattle.rest_routes.specs.declared.places.Verb.{Verb}
-use Rattle.rest_routes.specs.declared.places.Verb.TheVariants as verb
+use Rattle.rest_routes.specs.declared.endpoints.Endpoint.{Endpoint}
+use Rattle.rest_routes.specs.declared.endpoints.Endpoint.TheVariants as endpoint
+use Rattle.rest_routes.specs.declared.endpoints.Verb.{Verb}
+use Rattle.rest_routes.specs.declared.endpoints.Verb.TheVariants as verb
 use Rattle.rest_routes.specs.declared.query.Query.{Query}
 use Rattle.rest_routes.specs.Commands.{what_of}
 use Rattle.rest_routes.specs.Shapes.{rename_shape, change_shape, object_shape, shape_of}
@@ -70,55 +70,55 @@ list_formed kind.Instance path = refl
 list_formed kind.Snapshot path = refl
 list_formed kind.Operation path = refl
 
-read_formed : (place : Place) (verb : Verb) (path : List ℕ) (query : Query) (boot : ℕ) → is_timeout (wait_timeout query) ≡ true
-    → AnswerIsFormed (what_without_body place verb path query boot)
-read_formed place.Root verb path query boot time = refl
-read_formed place.Server verb path query boot time = refl
-read_formed (place.List kind) verb path query boot time = list_formed kind path
-read_formed (place.One kind) verb path query boot time = one_asked_formed kind verb path boot
-read_formed place.Usage verb path query boot time = refl
-read_formed place.State verb path query boot time = refl
-read_formed place.Wait verb path query boot time = found_formed _ (operation_at path boot) (λ op. time)
-read_formed place.Events verb path query boot time = tt
+read_formed : (endpoint : Endpoint) (verb : Verb) (path : List ℕ) (query : Query) (boot : ℕ) → is_timeout (wait_timeout query) ≡ true
+    → AnswerIsFormed (what_without_body endpoint verb path query boot)
+read_formed endpoint.Root verb path query boot time = refl
+read_formed endpoint.Server verb path query boot time = refl
+read_formed (endpoint.List kind) verb path query boot time = list_formed kind path
+read_formed (endpoint.One kind) verb path query boot time = one_asked_formed kind verb path boot
+read_formed endpoint.Usage verb path query boot time = refl
+read_formed endpoint.State verb path query boot time = refl
+read_formed endpoint.Wait verb path query boot time = found_formed _ (operation_at path boot) (λ op. time)
+read_formed endpoint.Events verb path query boot time = tt
 
 -- ---- requests that send a body
 
 -- what a body asks for is formed, where no field is at fault
-abbrev JudgedIsFormed : Place → Verb → List ℕ → Shape → Data → Type 0
-JudgedIsFormed place verb path shape body =
-    AnswerIsFormed (followed (unless_fault (body_fault shape body)) (λ fine. what_from_body place verb path shape body))
+abbrev JudgedIsFormed : Endpoint → Verb → List ℕ → Shape → Data → Type 0
+JudgedIsFormed endpoint verb path shape body =
+    AnswerIsFormed (followed (unless_fault (body_fault shape body)) (λ fine. what_from_body endpoint verb path shape body))
 
-judged : (place : Place) (verb : Verb) (path : List ℕ) (shape : Shape) (body : Data)
-    → (body_fault shape body ≡ None → AnswerIsFormed (what_from_body place verb path shape body)) → JudgedIsFormed place verb path shape body
-judged place verb path shape body fine = by (body_fault shape body) fine
+judged : (endpoint : Endpoint) (verb : Verb) (path : List ℕ) (shape : Shape) (body : Data)
+    → (body_fault shape body ≡ None → AnswerIsFormed (what_from_body endpoint verb path shape body)) → JudgedIsFormed endpoint verb path shape body
+judged endpoint verb path shape body fine = by (body_fault shape body) fine
   where
-    by : (fault : Option (List ℕ)) → (fault ≡ None → AnswerIsFormed (what_from_body place verb path shape body))
-        → AnswerIsFormed (followed (unless_fault fault) (λ fine. what_from_body place verb path shape body))
+    by : (fault : Option (List ℕ)) → (fault ≡ None → AnswerIsFormed (what_from_body endpoint verb path shape body))
+        → AnswerIsFormed (followed (unless_fault fault) (λ fine. what_from_body endpoint verb path shape body))
     by None fine = fine refl
     by (Some key) fine = tt
 
--- what a body at a place asks for, by its shape
-abbrev SaidIsFormed : Place → Verb → List ℕ → Option Shape → Data → Type 0
-SaidIsFormed place verb path found body =
-    AnswerIsFormed (followed (needed rule.A2 found) (λ shape. followed (unless_fault (body_fault shape body)) (λ fine. what_from_body place verb path shape body)))
+-- what a body at an endpoint asks for, by its shape
+abbrev SaidIsFormed : Endpoint → Verb → List ℕ → Option Shape → Data → Type 0
+SaidIsFormed endpoint verb path found body =
+    AnswerIsFormed (followed (needed rule.A2 found) (λ shape. followed (unless_fault (body_fault shape body)) (λ fine. what_from_body endpoint verb path shape body)))
 
 module _ (path : List ℕ) (body : Data) where
-  new_instance : (verb : Verb) → SaidIsFormed (place.List kind.Instance) verb path (shape_of (place.List kind.Instance) verb body) body
+  new_instance : (verb : Verb) → SaidIsFormed (endpoint.List kind.Instance) verb path (shape_of (endpoint.List kind.Instance) verb body) body
   new_instance verb = by (asks_for_copy body)
     where
-      by : (copy : Bool) → SaidIsFormed (place.List kind.Instance) verb path (Some (cond copy shape.InstanceCopy shape.NewInstance)) body
-      by true = judged (place.List kind.Instance) verb path shape.InstanceCopy body (copy_body_formed body [])
-      by false = judged (place.List kind.Instance) verb path shape.NewInstance body (instance_formed body [])
+      by : (copy : Bool) → SaidIsFormed (endpoint.List kind.Instance) verb path (Some (cond copy shape.InstanceCopy shape.NewInstance)) body
+      by true = judged (endpoint.List kind.Instance) verb path shape.InstanceCopy body (copy_body_formed body [])
+      by false = judged (endpoint.List kind.Instance) verb path shape.NewInstance body (instance_formed body [])
 
-  new_formed : (kind : ObjectKind) (verb : Verb) → SaidIsFormed (place.List kind) verb path (shape_of (place.List kind) verb body) body
-  new_formed kind.Project verb = judged (place.List kind.Project) verb path shape.NewProject body (λ fine. project_formed body [])
-  new_formed kind.Profile verb = judged (place.List kind.Profile) verb path shape.NewProfile body (λ fine. profile_formed body [])
-  new_formed kind.Network verb = judged (place.List kind.Network) verb path shape.NewNetwork body (λ fine. network_formed body [])
-  new_formed kind.Pool verb = judged (place.List kind.Pool) verb path shape.NewPool body (pool_formed body [])
+  new_formed : (kind : ObjectKind) (verb : Verb) → SaidIsFormed (endpoint.List kind) verb path (shape_of (endpoint.List kind) verb body) body
+  new_formed kind.Project verb = judged (endpoint.List kind.Project) verb path shape.NewProject body (λ fine. project_formed body [])
+  new_formed kind.Profile verb = judged (endpoint.List kind.Profile) verb path shape.NewProfile body (λ fine. profile_formed body [])
+  new_formed kind.Network verb = judged (endpoint.List kind.Network) verb path shape.NewNetwork body (λ fine. network_formed body [])
+  new_formed kind.Pool verb = judged (endpoint.List kind.Pool) verb path shape.NewPool body (pool_formed body [])
   new_formed kind.Volume verb =
-      judged (place.List kind.Volume) verb path shape.NewVolume body (λ fine. volume_body_formed body (pool_of kind.Volume path))
+      judged (endpoint.List kind.Volume) verb path shape.NewVolume body (λ fine. volume_body_formed body (pool_of kind.Volume path))
   new_formed kind.Instance verb = new_instance verb
-  new_formed kind.Snapshot verb = judged (place.List kind.Snapshot) verb path shape.NewSnapshot body (λ fine. snapshot_formed body [])
+  new_formed kind.Snapshot verb = judged (endpoint.List kind.Snapshot) verb path shape.NewSnapshot body (λ fine. snapshot_formed body [])
   new_formed kind.Operation verb = tt
 
   -- a PUT of an instance restores it, or else its fields were judged
@@ -132,37 +132,37 @@ module _ (path : List ℕ) (body : Data) where
       by None fine = instance_put_formed body [] (put_profiles body fine)
 
   -- POST, PUT and PATCH of an object of each kind
-  renamed_formed : (kind : ObjectKind) → SaidIsFormed (place.One kind) verb.Post path (rename_shape kind) body
-  renamed_formed kind.Project = judged (place.One kind.Project) verb.Post path shape.Rename body (λ fine. refl)
-  renamed_formed kind.Profile = judged (place.One kind.Profile) verb.Post path shape.Rename body (λ fine. refl)
-  renamed_formed kind.Network = judged (place.One kind.Network) verb.Post path shape.Rename body (λ fine. refl)
-  renamed_formed kind.Volume = judged (place.One kind.Volume) verb.Post path shape.Rename body (λ fine. refl)
-  renamed_formed kind.Instance = judged (place.One kind.Instance) verb.Post path shape.InstanceRename body (λ fine. refl)
+  renamed_formed : (kind : ObjectKind) → SaidIsFormed (endpoint.One kind) verb.Post path (rename_shape kind) body
+  renamed_formed kind.Project = judged (endpoint.One kind.Project) verb.Post path shape.Rename body (λ fine. refl)
+  renamed_formed kind.Profile = judged (endpoint.One kind.Profile) verb.Post path shape.Rename body (λ fine. refl)
+  renamed_formed kind.Network = judged (endpoint.One kind.Network) verb.Post path shape.Rename body (λ fine. refl)
+  renamed_formed kind.Volume = judged (endpoint.One kind.Volume) verb.Post path shape.Rename body (λ fine. refl)
+  renamed_formed kind.Instance = judged (endpoint.One kind.Instance) verb.Post path shape.InstanceRename body (λ fine. refl)
   renamed_formed kind.Pool = tt
   renamed_formed kind.Snapshot = tt
   renamed_formed kind.Operation = tt
 
-  put_formed : (kind : ObjectKind) → SaidIsFormed (place.One kind) verb.Put path (change_shape kind verb.Put) body
-  put_formed kind.Project = judged (place.One kind.Project) verb.Put path shape.Change body (λ fine. change_formed body [])
-  put_formed kind.Profile = judged (place.One kind.Profile) verb.Put path shape.ProfileChange body (λ fine. profile_change_formed body [])
-  put_formed kind.Network = judged (place.One kind.Network) verb.Put path shape.Change body (λ fine. change_formed body [])
-  put_formed kind.Pool = judged (place.One kind.Pool) verb.Put path shape.Change body (λ fine. change_formed body [])
-  put_formed kind.Volume = judged (place.One kind.Volume) verb.Put path shape.Change body (λ fine. change_formed body (pool_of kind.Volume path))
-  put_formed kind.Instance = judged (place.One kind.Instance) verb.Put path shape.InstancePut body instance_put
+  put_formed : (kind : ObjectKind) → SaidIsFormed (endpoint.One kind) verb.Put path (change_shape kind verb.Put) body
+  put_formed kind.Project = judged (endpoint.One kind.Project) verb.Put path shape.Change body (λ fine. change_formed body [])
+  put_formed kind.Profile = judged (endpoint.One kind.Profile) verb.Put path shape.ProfileChange body (λ fine. profile_change_formed body [])
+  put_formed kind.Network = judged (endpoint.One kind.Network) verb.Put path shape.Change body (λ fine. change_formed body [])
+  put_formed kind.Pool = judged (endpoint.One kind.Pool) verb.Put path shape.Change body (λ fine. change_formed body [])
+  put_formed kind.Volume = judged (endpoint.One kind.Volume) verb.Put path shape.Change body (λ fine. change_formed body (pool_of kind.Volume path))
+  put_formed kind.Instance = judged (endpoint.One kind.Instance) verb.Put path shape.InstancePut body instance_put
   put_formed kind.Snapshot = tt
   put_formed kind.Operation = tt
 
-  patch_formed : (kind : ObjectKind) → SaidIsFormed (place.One kind) verb.Patch path (change_shape kind verb.Patch) body
-  patch_formed kind.Project = judged (place.One kind.Project) verb.Patch path shape.Change body (λ fine. change_formed body [])
-  patch_formed kind.Profile = judged (place.One kind.Profile) verb.Patch path shape.ProfileChange body (λ fine. profile_change_formed body [])
-  patch_formed kind.Network = judged (place.One kind.Network) verb.Patch path shape.Change body (λ fine. change_formed body [])
-  patch_formed kind.Pool = judged (place.One kind.Pool) verb.Patch path shape.Change body (λ fine. change_formed body [])
-  patch_formed kind.Volume = judged (place.One kind.Volume) verb.Patch path shape.Change body (λ fine. change_formed body (pool_of kind.Volume path))
-  patch_formed kind.Instance = judged (place.One kind.Instance) verb.Patch path shape.InstancePatch body (instance_patch_formed body [])
+  patch_formed : (kind : ObjectKind) → SaidIsFormed (endpoint.One kind) verb.Patch path (change_shape kind verb.Patch) body
+  patch_formed kind.Project = judged (endpoint.One kind.Project) verb.Patch path shape.Change body (λ fine. change_formed body [])
+  patch_formed kind.Profile = judged (endpoint.One kind.Profile) verb.Patch path shape.ProfileChange body (λ fine. profile_change_formed body [])
+  patch_formed kind.Network = judged (endpoint.One kind.Network) verb.Patch path shape.Change body (λ fine. change_formed body [])
+  patch_formed kind.Pool = judged (endpoint.One kind.Pool) verb.Patch path shape.Change body (λ fine. change_formed body [])
+  patch_formed kind.Volume = judged (endpoint.One kind.Volume) verb.Patch path shape.Change body (λ fine. change_formed body (pool_of kind.Volume path))
+  patch_formed kind.Instance = judged (endpoint.One kind.Instance) verb.Patch path shape.InstancePatch body (instance_patch_formed body [])
   patch_formed kind.Snapshot = tt
   patch_formed kind.Operation = tt
 
-  changed_formed : (kind : ObjectKind) (verb : Verb) → SaidIsFormed (place.One kind) verb path (object_shape kind verb) body
+  changed_formed : (kind : ObjectKind) (verb : Verb) → SaidIsFormed (endpoint.One kind) verb path (object_shape kind verb) body
   changed_formed kind verb.Get = tt
   changed_formed kind verb.Post = renamed_formed kind
   changed_formed kind verb.Put = put_formed kind
@@ -174,28 +174,28 @@ module _ (path : List ℕ) (body : Data) where
   acted (Ok action) = refl
   acted (Err refusal) = tt
 
-  said_formed : (place : Place) (verb : Verb) → SaidIsFormed place verb path (shape_of place verb body) body
-  said_formed (place.List kind) verb = new_formed kind verb
-  said_formed (place.One kind) verb = changed_formed kind verb
-  said_formed place.State verb = judged place.State verb path shape.StateChange body (λ fine. acted _)
-  said_formed place.Root verb = tt
-  said_formed place.Server verb = tt
-  said_formed place.Usage verb = tt
-  said_formed place.Wait verb = tt
-  said_formed place.Events verb = tt
+  said_formed : (endpoint : Endpoint) (verb : Verb) → SaidIsFormed endpoint verb path (shape_of endpoint verb body) body
+  said_formed (endpoint.List kind) verb = new_formed kind verb
+  said_formed (endpoint.One kind) verb = changed_formed kind verb
+  said_formed endpoint.State verb = judged endpoint.State verb path shape.StateChange body (λ fine. acted _)
+  said_formed endpoint.Root verb = tt
+  said_formed endpoint.Server verb = tt
+  said_formed endpoint.Usage verb = tt
+  said_formed endpoint.Wait verb = tt
+  said_formed endpoint.Events verb = tt
 
-sent_formed : (place : Place) (verb : Verb) (path : List ℕ) (sent : Option Data) → AnswerIsFormed (what_with_body place verb path sent)
+sent_formed : (endpoint : Endpoint) (verb : Verb) (path : List ℕ) (sent : Option Data) → AnswerIsFormed (what_with_body endpoint verb path sent)
 unfolding what_with_body
-sent_formed place verb path None = tt
-sent_formed place verb path (Some body) = said_formed path body place verb
+sent_formed endpoint verb path None = tt
+sent_formed endpoint verb path (Some body) = said_formed path body endpoint verb
 
 -- ---- both
 
-pub asked_formed : (place : Place) (verb : Verb) (path : List ℕ) (query : Query) (boot : ℕ) (sent : Option Data) → is_timeout (wait_timeout query) ≡ true
-    → AnswerIsFormed (what_of place verb path query boot sent)
-asked_formed place verb path query boot sent time = by (has_body verb) (sent_formed place verb path sent) (read_formed place verb path query boot time)
+pub asked_formed : (endpoint : Endpoint) (verb : Verb) (path : List ℕ) (query : Query) (boot : ℕ) (sent : Option Data) → is_timeout (wait_timeout query) ≡ true
+    → AnswerIsFormed (what_of endpoint verb path query boot sent)
+asked_formed endpoint verb path query boot sent time = by (has_body verb) (sent_formed endpoint verb path sent) (read_formed endpoint verb path query boot time)
   where
-    by : (b : Bool) → AnswerIsFormed (what_with_body place verb path sent) → AnswerIsFormed (what_without_body place verb path query boot)
-        → AnswerIsFormed (cond b (what_with_body place verb path sent) (what_without_body place verb path query boot))
+    by : (b : Bool) → AnswerIsFormed (what_with_body endpoint verb path sent) → AnswerIsFormed (what_without_body endpoint verb path query boot)
+        → AnswerIsFormed (cond b (what_with_body endpoint verb path sent) (what_without_body endpoint verb path query boot))
     by true h k = h
     by false h k = k

@@ -8,8 +8,8 @@ use Rattle.matchit.specs.Seek.{has_slash, slash}
 use Rattle.size_values.specs.declared.kinds.ObjectKind.TheVariants as kind
 use Rattle.rest_routes.specs.Filled.{filled, names_in, NamesFill}
 use Rattle.rest_routes.specs.Paths.{is_slash, before_slash, after_slash, after_three_slashes, name_of, pool_of, instance_of}
-use Rattle.rest_routes.specs.Places.{routes, rows}
-use Rattle.rest_routes.specs.declared.places.Line.{Line}
+use Rattle.rest_routes.specs.Endpoints.{routes, rows}
+use Rattle.rest_routes.specs.declared.endpoints.Line.{Line}
 use Rattle.rest_routes.proofs.Matching.{AreParts, Fits, In, params_in, has_catch_all, sound}
 
 -- ---- cutting at slashes
@@ -118,7 +118,7 @@ of-row P ((u, k) ∷ more) each t key (inr h) = of-row P more each.1 t key h
 
 -- a path that fits a row has its names
 abbrev Names : List ℕ → List ℕ → RouteOf Line → Type 0
-Names path t route = Fits t path ⊎ (has_catch_all t ≡ true) → path ≡ filled route.pattern (names_in route.value.place path)
+Names path t route = Fits t path ⊎ (has_catch_all t ≡ true) → path ≡ filled route.pattern (names_in route.value.endpoint path)
 
 each-names : (path : List ℕ) → Each (Names path) rows
 unfolding matchit_on_literals routes rows before_slash after_slash after_three_slashes

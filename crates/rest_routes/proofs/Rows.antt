@@ -6,8 +6,8 @@ use Rattle.matchit.specs.Router.{RouteOf, InsertsRead, Refused, nearest}
 use Rattle.matchit.specs.Rows.{RowsOf}
 use Rattle.matchit.specs.declared.error.InsertError.{InsertError}
 use Rattle.matchit.specs.declared.error.InsertError.TheVariants.{Conflict, InvalidParam, InvalidParamSegment, InvalidCatchAll, OutOfMemory}
-use Rattle.rest_routes.specs.Places.{row_added, is_taken, are_taken}
-use Rattle.rest_routes.specs.declared.places.Line.{Line}
+use Rattle.rest_routes.specs.Endpoints.{row_added, is_taken, are_taken}
+use Rattle.rest_routes.specs.declared.endpoints.Line.{Line}
 
 -- a path that was inserted is added to the rows
 pub inserted : (read : Result Scan InsertError) (line : Line) (old new : RowsOf (RouteOf Line)) → InsertsRead read line old new (Ok tt) → new ≡ row_added read line old

@@ -9,10 +9,10 @@ use Rattle.records.specs.declared.refusals.Refusal.{Refusal}
 use Rattle.rest_bodies.specs.Members.{object_in}
 use Rattle.rest_routes.specs.Answers.{mapped, followed}
 use Rattle.rest_routes.specs.Paths.{path_of, query_of}
-use Rattle.rest_routes.specs.Places.{line_of, verb_offered, has_body}
+use Rattle.rest_routes.specs.Endpoints.{line_of, verb_offered, has_body}
 use Rattle.rest_routes.specs.Queries.{query_from_text, project_of}
-use Rattle.rest_routes.specs.declared.places.Place.{Place}
-use Rattle.rest_routes.specs.declared.places.Verb.{Verb}
+use Rattle.rest_routes.specs.declared.endpoints.Endpoint.{Endpoint}
+use Rattle.rest_routes.specs.declared.endpoints.Verb.{Verb}
 use Rattle.rest_routes.specs.declared.query.Query.{Query}
 use Rattle.rest_routes.specs.WithBody.{needed, what_with_body}
 use Rattle.rest_routes.specs.WithoutBody.{what_without_body}
@@ -21,22 +21,23 @@ use Rattle.rest_routes.specs.WithoutBody.{what_without_body}
 abbrev pub sent_body : Verb → List ℕ → Option Data
 sent_body verb body = if has_body verb then object_in body else None
 
--- what a request asks for at its place
-abbrev pub what_of : Place → Verb → List ℕ → Query → ℕ → Option Data → Result What Refusal
-what_of place verb path query boot sent =
-    if has_body verb then what_with_body place verb path sent else what_without_body place verb path query boot
+-- what a request asks for at its endpoint
+abbrev pub what_of : Endpoint → Verb → List ℕ → Query → ℕ → Option Data → Result What Refusal
+what_of endpoint verb path query boot sent =
+    if has_body verb then what_with_body endpoint verb path sent else what_without_body endpoint verb path query boot
 
--- A request at its place, by its query (A3) and then by what it asks for. The daemon's boot word is that of the ids of
--- operations.
-unfoldable pub command_at : Place → Verb → List ℕ → List ℕ → Option Data → ℕ → Result Command Refusal
-command_at place verb path query_text sent boot =
+-- A request at its endpoint, by its query (A3) and then by what it asks for. The daemon's boot word is that of the ids
+-- of operations.
+unfoldable pub command_at : Endpoint → Verb → List ℕ → List ℕ → Option Data → ℕ → Result Command Refusal
+command_at endpoint verb path query_text sent boot =
     followed (query_from_text query_text) (λ query.
     mapped (λ asked. record { project = project_of query; what = asked })
-    (what_of place verb path query boot sent))
+    (what_of endpoint verb path query boot sent))
 
 -- The command that a request asks for, or its refusal: its path is listed (A1), and its method is offered there (A2).
 unfoldable pub command_of : Request → ℕ → Result Command Refusal
 command_of request boot =
     followed (needed rule.A1 (line_of (path_of request.target))) (λ line.
     followed (needed rule.A2 (verb_offered line request.method)) (λ verb.
-    command_at line.place verb (path_of request.target) (query_of request.target) (sent_body verb request.body) boot))
+    command_at line.endpoint verb (path_of request.target) (query_of request.target)
+    (sent_body verb request.body) boot))

@@ -1,7 +1,7 @@
 pub mod Answers
 pub mod Filled
 pub mod Paths
-pub mod Places
+pub mod Endpoints
 pub mod Queries
 pub mod Refusals
 pub mod Commands

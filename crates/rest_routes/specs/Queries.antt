@@ -21,7 +21,7 @@ use Rattle.rest_routes.specs.declared.query.Types.{Types}
 abbrev pub text_of : List ℕ → List ℕ
 text_of raw = utf8_lossy (decode raw)
 
--- `0` lists links, and `1` and `2` list objects
+-- `0` lists URLs, and `1` and `2` list objects
 unfoldable pub recursion_of : List ℕ → Option Bool
 recursion_of value =
     if bytes_eq value (codes "0") then Some false
@@ -107,7 +107,7 @@ query_from_text text = query_in no_query (raw_pairs text)
 abbrev pub project_of : Query → List ℕ
 project_of query = unwrap_or query.project (codes "default")
 
--- whether objects are listed, and not their links alone
+-- whether objects are listed, and not their URLs alone
 abbrev pub wants_objects : Query → Bool
 wants_objects query = unwrap_or query.flags.recursion false
 

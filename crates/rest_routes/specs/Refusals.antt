@@ -2,21 +2,21 @@
 use Rattle.std.specs.Prelude.{ℕ, List, [], codes}
 use Rattle.records.specs.declared.refusals.Rule.{Rule}
 use Rattle.records.specs.declared.refusals.Rule.TheVariants as rule
-use Rattle.records.specs.declared.refusals.Kept.{Kept}
+use Rattle.records.specs.declared.refusals.Details.{Details}
 use Rattle.records.specs.declared.refusals.Refusal.{Refusal}
 
--- nothing is told
-abbrev pub nothing_told : Kept
-nothing_told = record { kind = []; project = []; name = []; key = []; number = 0; used = 0; asked = 0; limit = 0 }
+-- a rule alone, without details
+abbrev pub no_details : Details
+no_details = record { kind = []; project = []; name = []; key = []; number = 0; used = 0; asked = 0; limit = 0 }
 
 -- the rule and a key
 abbrev pub on_key : Rule → List ℕ → Refusal
-on_key rule key = record { rule = rule; kept = record nothing_told { key = key } }
+on_key rule key = record { rule = rule; details = record no_details { key = key } }
 
 -- the rule alone
 abbrev pub plain_refusal : Rule → Refusal
-plain_refusal rule = record { rule = rule; kept = nothing_told }
+plain_refusal rule = record { rule = rule; details = no_details }
 
 -- no operation has this id
 abbrev pub no_operation : List ℕ → Refusal
-no_operation id = record { rule = rule.N2; kept = record nothing_told { kind = codes "operation"; name = id } }
+no_operation id = record { rule = rule.N2; details = record no_details { kind = codes "operation"; name = id } }

@@ -1,4 +1,4 @@
--- The shapes of bodies: which one a method sends to a place.
+-- The shapes of bodies: which one a method sends to an endpoint.
 use Rattle.std.specs.Prelude.{Option, Some, None, if◌then◌else◌}
 use Rattle.serde_json.specs.Data.{Data}
 use Rattle.size_values.specs.declared.kinds.ObjectKind.{ObjectKind}
@@ -6,10 +6,10 @@ use Rattle.size_values.specs.declared.kinds.ObjectKind.TheVariants as kind
 use Rattle.rest_bodies.specs.Origins.{asks_for_copy}
 use Rattle.rest_bodies.specs.declared.fields.Shape.{Shape}
 use Rattle.rest_bodies.specs.declared.fields.Shape.TheVariants as shape
-use Rattle.rest_routes.specs.declared.places.Place.{Place}
-use Rattle.rest_routes.specs.declared.places.Place.TheVariants as place
-use Rattle.rest_routes.specs.declared.places.Verb.{Verb}
-use Rattle.rest_routes.specs.declared.places.Verb.TheVariants as verb
+use Rattle.rest_routes.specs.declared.endpoints.Endpoint.{Endpoint}
+use Rattle.rest_routes.specs.declared.endpoints.Endpoint.TheVariants as endpoint
+use Rattle.rest_routes.specs.declared.endpoints.Verb.{Verb}
+use Rattle.rest_routes.specs.declared.endpoints.Verb.TheVariants as verb
 
 -- a new instance, which is a copy where its source says so, whatever else the body says
 abbrev pub instance_shape : Data → Shape
@@ -61,9 +61,9 @@ object_shape kind verb.Put = change_shape kind verb.Put
 object_shape kind verb.Patch = change_shape kind verb.Patch
 object_shape kind verb.Delete = None
 
--- the shape of the body that a method sends to a place, if one is sent there
-abbrev pub shape_of : Place → Verb → Data → Option Shape
-shape_of (place.List kind) verb body = creation_shape kind body
-shape_of (place.One kind) verb body = object_shape kind verb
-shape_of place.State verb body = Some shape.StateChange
+-- the shape of the body that a method sends to an endpoint, if one is sent there
+abbrev pub shape_of : Endpoint → Verb → Data → Option Shape
+shape_of (endpoint.List kind) verb body = creation_shape kind body
+shape_of (endpoint.One kind) verb body = object_shape kind verb
+shape_of endpoint.State verb body = Some shape.StateChange
 shape_of other verb body = None

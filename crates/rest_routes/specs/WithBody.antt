@@ -19,10 +19,10 @@ use Rattle.rest_bodies.specs.declared.fields.Shape.TheVariants as shape
 use Rattle.rest_routes.specs.Answers.{mapped, followed}
 use Rattle.rest_routes.specs.Paths.{pool_of}
 use Rattle.rest_routes.specs.Refusals.{on_key, plain_refusal}
-use Rattle.rest_routes.specs.declared.places.Place.{Place}
-use Rattle.rest_routes.specs.declared.places.Place.TheVariants as place
-use Rattle.rest_routes.specs.declared.places.Verb.{Verb}
-use Rattle.rest_routes.specs.declared.places.Verb.TheVariants as verb
+use Rattle.rest_routes.specs.declared.endpoints.Endpoint.{Endpoint}
+use Rattle.rest_routes.specs.declared.endpoints.Endpoint.TheVariants as endpoint
+use Rattle.rest_routes.specs.declared.endpoints.Verb.{Verb}
+use Rattle.rest_routes.specs.declared.endpoints.Verb.TheVariants as verb
 use Rattle.rest_routes.specs.Shapes.{shape_of}
 use Rattle.rest_routes.specs.Targets.{target_at_path, object_of}
 
@@ -63,17 +63,17 @@ action_from_body path body =
     (ok_or (action_at body) (on_key rule.A5 (codes "action")))
 
 -- what a body of a shape asks for: a new object, a change of the object in the path, or an action on it
-abbrev pub what_from_body : Place → Verb → List ℕ → Shape → Data → Result What Refusal
-what_from_body (place.List kind) verb path shape body = Ok (creation_from_body kind path shape body)
-what_from_body (place.One kind) verb path shape body = Ok (change_from_body verb (object_of kind path) shape body)
-what_from_body place.State verb path shape body = action_from_body path body
+abbrev pub what_from_body : Endpoint → Verb → List ℕ → Shape → Data → Result What Refusal
+what_from_body (endpoint.List kind) verb path shape body = Ok (creation_from_body kind path shape body)
+what_from_body (endpoint.One kind) verb path shape body = Ok (change_from_body verb (object_of kind path) shape body)
+what_from_body endpoint.State verb path shape body = action_from_body path body
 what_from_body other verb path shape body = Err (plain_refusal rule.A2)
 
 -- What POST, PUT and PATCH ask for: the body is an object (A4), one is sent there (A2), and each of its fields has its
 -- form (A5).
-unfoldable pub what_with_body : Place → Verb → List ℕ → Option Data → Result What Refusal
-what_with_body place verb path sent =
+unfoldable pub what_with_body : Endpoint → Verb → List ℕ → Option Data → Result What Refusal
+what_with_body endpoint verb path sent =
     followed (needed rule.A4 sent) (λ body.
-    followed (needed rule.A2 (shape_of place verb body)) (λ shape.
+    followed (needed rule.A2 (shape_of endpoint verb body)) (λ shape.
     followed (unless_fault (body_fault shape body)) (λ fine.
-    what_from_body place verb path shape body)))
+    what_from_body endpoint verb path shape body)))

@@ -10,10 +10,10 @@ use Rattle.records.specs.declared.refusals.Refusal.{Refusal}
 use Rattle.rest_routes.specs.Answers.{mapped}
 use Rattle.rest_routes.specs.Queries.{wants_objects, wait_timeout}
 use Rattle.rest_routes.specs.Refusals.{plain_refusal}
-use Rattle.rest_routes.specs.declared.places.Place.{Place}
-use Rattle.rest_routes.specs.declared.places.Place.TheVariants as place
-use Rattle.rest_routes.specs.declared.places.Verb.{Verb}
-use Rattle.rest_routes.specs.declared.places.Verb.TheVariants as verb
+use Rattle.rest_routes.specs.declared.endpoints.Endpoint.{Endpoint}
+use Rattle.rest_routes.specs.declared.endpoints.Endpoint.TheVariants as endpoint
+use Rattle.rest_routes.specs.declared.endpoints.Verb.{Verb}
+use Rattle.rest_routes.specs.declared.endpoints.Verb.TheVariants as verb
 use Rattle.rest_routes.specs.declared.query.Query.{Query}
 use Rattle.rest_routes.specs.Targets.{object_of, objects_of, operation_at}
 
@@ -32,14 +32,15 @@ abbrev pub get_or_delete_at : ObjectKind → Verb → List ℕ → ℕ → Resul
 get_or_delete_at kind.Operation verb path boot = mapped (get_or_cancel verb) (operation_at path boot)
 get_or_delete_at kind verb path boot = Ok (get_or_delete verb (object_of kind path))
 
--- What GET and DELETE ask for at a place. Events are not sent to a client that speaks HTTP alone.
-abbrev pub what_without_body : Place → Verb → List ℕ → Query → ℕ → Result What Refusal
-what_without_body place.Root verb path query boot = Ok what.Root
-what_without_body place.Server verb path query boot = Ok what.Server
-what_without_body (place.List kind) verb path query boot = Ok (what.List (objects_of kind path) (wants_objects query))
-what_without_body (place.One kind) verb path query boot = get_or_delete_at kind verb path boot
-what_without_body place.Usage verb path query boot = Ok (what.State (object_of kind.Project path))
-what_without_body place.State verb path query boot = Ok (what.State (object_of kind.Instance path))
-what_without_body place.Wait verb path query boot =
+-- What GET and DELETE ask for at an endpoint. Events are not sent to a client that speaks HTTP alone.
+abbrev pub what_without_body : Endpoint → Verb → List ℕ → Query → ℕ → Result What Refusal
+what_without_body endpoint.Root verb path query boot = Ok what.Root
+what_without_body endpoint.Server verb path query boot = Ok what.Server
+what_without_body (endpoint.List kind) verb path query boot =
+    Ok (what.List (objects_of kind path) (wants_objects query))
+what_without_body (endpoint.One kind) verb path query boot = get_or_delete_at kind verb path boot
+what_without_body endpoint.Usage verb path query boot = Ok (what.State (object_of kind.Project path))
+what_without_body endpoint.State verb path query boot = Ok (what.State (object_of kind.Instance path))
+what_without_body endpoint.Wait verb path query boot =
     mapped (λ op. what.Wait op (wait_timeout query)) (operation_at path boot)
-what_without_body place.Events verb path query boot = Err (plain_refusal rule.A6)
+what_without_body endpoint.Events verb path query boot = Err (plain_refusal rule.A6)

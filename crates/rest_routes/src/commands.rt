@@ -4,8 +4,8 @@ ghost use Rattle.serde_json.specs.View.{view};
 ghost use Rattle.rest_routes.specs.Answers.{Gives};
 ghost use Rattle.rest_routes.specs.Commands.{sent_body, what_of, command_at, command_of};
 
+use crate::endpoints::{Endpoint, Verb, has_body, verb_offered};
 use crate::paths::split_target;
-use crate::places::{Place, Verb, has_body, verb_offered};
 use crate::query::{Query, project_of, query_from_text};
 use crate::refusals::plain_refusal;
 use crate::table::PathTable;
@@ -30,37 +30,37 @@ fn sent_body(alloc: Global, verb: Verb, body: &[u8]) -> Result<Option<Value>, No
 
 fn what_of(
     alloc: Global,
-    place: Place,
+    endpoint: Endpoint,
     verb: Verb,
     path: &str,
     query: &Query,
     boot: u64,
     sent: &Option<Value>,
 ) -> Result<What, Or<Refusal>>
-    ensures { Gives result (what_of place verb path.now query.now boot (option_map view sent.now)) }
+    ensures { Gives result (what_of endpoint verb path.now query.now boot (option_map view sent.now)) }
 {
     if has_body(verb) {
-        return what_with_body(alloc, place, verb, path, sent);
+        return what_with_body(alloc, endpoint, verb, path, sent);
     }
-    what_without_body(alloc, place, verb, path, query, boot)
+    what_without_body(alloc, endpoint, verb, path, query, boot)
 }
 
-/// The command that a method, the two parts of a target and a body ask for at a place.
+/// The command that a method, the two parts of a target and a body ask for at an endpoint.
 #[tactic(auto, unfolding(crate::specs::Commands::command_at))]
 fn command_at(
     alloc: Global,
-    place: Place,
+    endpoint: Endpoint,
     verb: Verb,
     path: &str,
     query_text: &str,
     sent: &Option<Value>,
     boot: u64,
 ) -> Result<Command, Or<Refusal>>
-    ensures { Gives result (command_at place verb path.now query_text.now
+    ensures { Gives result (command_at endpoint verb path.now query_text.now
         (option_map view sent.now) boot) }
 {
     let query = query_from_text(alloc, query_text)?;
-    let what = what_of(alloc, place, verb, path, &query, boot, sent)?;
+    let what = what_of(alloc, endpoint, verb, path, &query, boot, sent)?;
     match project_of(alloc, query) {
         Ok(project) => Ok(Command { project, what }),
         Err(NoMemory) => {
@@ -88,5 +88,5 @@ pub(crate) fn command_of(
         return Err(plain_refusal(alloc, Rule::A2));
     };
     let sent = sent_body(alloc, verb, request.body.view())?;
-    command_at(alloc, line.place, verb, path, query_text, &sent, boot)
+    command_at(alloc, line.endpoint, verb, path, query_text, &sent, boot)
 }

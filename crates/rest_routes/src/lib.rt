@@ -2,11 +2,11 @@
 #![tactic(auto)]
 
 mod commands;
+mod endpoints;
 mod known;
 mod laws;
 mod path_laws;
 mod paths;
-mod places;
 mod query;
 mod refusals;
 mod router;
@@ -16,6 +16,7 @@ mod targets;
 mod with_body;
 mod without_body;
 
+pub use endpoints::{Endpoint, Line, Methods, Verb, has_body, verb_offered};
 pub use known::asks_for_server;
 pub use laws::what_is_routed_is_formed;
 pub use path_laws::{
@@ -25,7 +26,6 @@ pub use path_laws::{
 pub use paths::{
     PathNames, instance_of, name_of, path_names, path_of, pool_of, query_of, split_target,
 };
-pub use places::{Line, Methods, Place, Verb, has_body, verb_offered};
 pub use query::{
     Flags, Query, Types, project_of, query_from_text, wait_timeout, wanted_types, wants_objects,
 };

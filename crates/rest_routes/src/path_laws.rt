@@ -1,7 +1,7 @@
 //! What can be said of the table of paths. A law is the contract of a function that does nothing.
 ghost use Rattle.std.specs.Prelude.{◌≡◌, true, [], codes, Some, Ok};
 ghost use Rattle.rest_routes.specs.Filled.{NamesFill};
-ghost use Rattle.rest_routes.specs.Places.{routes, are_taken, line_of, server_line, EventsStandAtOnePath};
+ghost use Rattle.rest_routes.specs.Endpoints.{routes, are_taken, line_of, server_line, EventsStandAtOnePath};
 ghost use Rattle.rest_routes.specs.Queries.{no_query, query_from_text};
 
 /// No path of the table is malformed, and none conflicts with one before it, so that a table of paths fails to be made

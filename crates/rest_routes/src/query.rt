@@ -20,7 +20,7 @@ pub struct Types {
     pub operation: bool,
 }
 
-/// What a query says besides the project: whether objects are listed and not their links alone, how many seconds to
+/// What a query says besides the project: whether objects are listed and not their URLs alone, how many seconds to
 /// wait for an operation, with -1 for no end, and which types of events are wanted.
 #[derive(Clone, Copy)]
 pub struct Flags {
@@ -207,7 +207,7 @@ pub fn project_of(alloc: Global, query: Query) -> Result<Text, NoMemory>
     }
 }
 
-/// Whether objects are listed, and not their links alone.
+/// Whether objects are listed, and not their URLs alone.
 pub fn wants_objects(query: &Query) -> bool
     ensures { result ≡ wants_objects query.now }
 {

@@ -1,16 +1,16 @@
 ghost use Rattle.std.specs.Prelude.{◌≡◌, IfOk};
 ghost use Rattle.rest_routes.specs.Answers.{IsRefused};
-ghost use Rattle.rest_routes.specs.Refusals.{nothing_told, on_key, plain_refusal, no_operation};
+ghost use Rattle.rest_routes.specs.Refusals.{no_details, on_key, plain_refusal, no_operation};
 
-use records::{Kept, Refusal, Rule};
+use records::{Details, Refusal, Rule};
 use size_values::{NoMemory, Or, Text};
 use std::alloc::Global;
 
-/// What is kept of a rule that tells a key, or nothing where the key is empty.
-fn kept_key(alloc: Global, key: &str) -> Result<Kept, NoMemory>
-    ensures { IfOk result (λ k. k ≡ record nothing_told { key = key.now }) }
+/// The details of a rule that tells a key, which are none where the key is empty.
+fn details_of_key(alloc: Global, key: &str) -> Result<Details, NoMemory>
+    ensures { IfOk result (λ k. k ≡ record no_details { key = key.now }) }
 {
-    Ok(Kept {
+    Ok(Details {
         kind: Text::new(alloc),
         project: Text::new(alloc),
         name: Text::new(alloc),
@@ -26,8 +26,8 @@ fn kept_key(alloc: Global, key: &str) -> Result<Kept, NoMemory>
 pub fn refusal_on_key(alloc: Global, rule: Rule, key: &str) -> Or<Refusal>
     ensures { IsRefused result (on_key rule key.now) }
 {
-    match kept_key(alloc, key) {
-        Ok(kept) => Or::Why(Refusal { rule, kept }),
+    match details_of_key(alloc, key) {
+        Ok(details) => Or::Why(Refusal { rule, details }),
         Err(_) => Or::NoMemory,
     }
 }
@@ -39,11 +39,11 @@ pub fn plain_refusal(alloc: Global, rule: Rule) -> Or<Refusal>
     refusal_on_key(alloc, rule, "")
 }
 
-fn kept_of_operation(alloc: Global, id: &str) -> Result<Kept, NoMemory>
-    ensures { IfOk result (λ k. k ≡ (no_operation id.now).kept) }
+fn details_of_operation(alloc: Global, id: &str) -> Result<Details, NoMemory>
+    ensures { IfOk result (λ k. k ≡ (no_operation id.now).details) }
 {
     let name = Text::from_text(alloc, id)?;
-    Ok(Kept {
+    Ok(Details {
         kind: Text::from_text(alloc, "operation")?,
         project: Text::new(alloc),
         name,
@@ -59,10 +59,10 @@ fn kept_of_operation(alloc: Global, id: &str) -> Result<Kept, NoMemory>
 pub fn no_operation(alloc: Global, id: &str) -> Or<Refusal>
     ensures { IsRefused result (no_operation id.now) }
 {
-    match kept_of_operation(alloc, id) {
-        Ok(kept) => Or::Why(Refusal {
+    match details_of_operation(alloc, id) {
+        Ok(details) => Or::Why(Refusal {
             rule: Rule::N2,
-            kept,
+            details,
         }),
         Err(_) => Or::NoMemory,
     }

@@ -1,7 +1,7 @@
 ghost use Rattle.std.specs.Prelude.{◌≡◌, IfOk, IsTrue};
 ghost use Rattle.records.specs.Forms.{is_formed};
 ghost use Rattle.rest_routes.specs.Answers.{Gives};
-ghost use Rattle.rest_routes.specs.Places.{rows};
+ghost use Rattle.rest_routes.specs.Endpoints.{rows};
 ghost use Rattle.rest_routes.specs.Commands.{command_of};
 
 use crate::commands::command_of;
@@ -19,7 +19,7 @@ pub struct Router {
 }
 
 impl Model for Router {
-    ghost use Rattle.rest_routes.specs.Places.{PathRows};
+    ghost use Rattle.rest_routes.specs.Endpoints.{PathRows};
 
     ghost Value = { PathRows };
 

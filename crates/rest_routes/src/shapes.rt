@@ -1,10 +1,10 @@
-//! Which body a method sends to a place.
+//! Which body a method sends to an endpoint.
 ghost use Rattle.std.specs.Prelude.{◌≡◌};
 ghost use Rattle.serde_json.specs.View.{view};
 ghost use Rattle.rest_routes.specs.Shapes.{instance_shape, creation_shape, rename_shape, instance_change};
 ghost use Rattle.rest_routes.specs.Shapes.{change_shape, object_shape, shape_of};
 
-use crate::places::{Place, Verb};
+use crate::endpoints::{Endpoint, Verb};
 use rest_bodies::{SentBody, Shape, asks_for_copy};
 use size_values::ObjectKind;
 
@@ -88,14 +88,14 @@ fn object_shape(kind: ObjectKind, verb: Verb) -> Option<Shape>
     }
 }
 
-/// The shape of the body that a method sends to a place, if one is sent there.
-pub(crate) fn shape_of(place: Place, verb: Verb, body: &SentBody) -> Option<Shape>
-    ensures { result ≡ shape_of place verb (view body.now) }
+/// The shape of the body that a method sends to an endpoint, if one is sent there.
+pub(crate) fn shape_of(endpoint: Endpoint, verb: Verb, body: &SentBody) -> Option<Shape>
+    ensures { result ≡ shape_of endpoint verb (view body.now) }
 {
-    match place {
-        Place::List(kind) => creation_shape(kind, body),
-        Place::One(kind) => object_shape(kind, verb),
-        Place::State => Some(Shape::StateChange),
+    match endpoint {
+        Endpoint::List(kind) => creation_shape(kind, body),
+        Endpoint::One(kind) => object_shape(kind, verb),
+        Endpoint::State => Some(Shape::StateChange),
         _ => None,
     }
 }

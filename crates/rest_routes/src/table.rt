@@ -1,9 +1,9 @@
 //! The table of paths.
 ghost use Rattle.std.specs.Prelude.{◌≡◌, true, IfOk, map, []};
 ghost use Rattle.matchit.specs.declared.error.InsertError.TheVariants.{OutOfMemory};
-ghost use Rattle.rest_routes.specs.Places.{line_with, are_taken, rows_after, rows, line_of};
+ghost use Rattle.rest_routes.specs.Endpoints.{line_with, are_taken, rows_after, rows, line_of};
 
-use crate::places::{Line, Methods, Place, ROUTES};
+use crate::endpoints::{Endpoint, Line, Methods, ROUTES};
 use matchit::InsertError;
 use size_values::NoMemory;
 use std::alloc::Global;
@@ -16,12 +16,12 @@ pub struct PathTable {
 }
 
 impl Model for PathTable {
-    ghost use Rattle.rest_routes.specs.Places.{PathRows};
+    ghost use Rattle.rest_routes.specs.Endpoints.{PathRows};
 
     ghost Value = { PathRows };
 
     ghost use Rattle.std.specs.Prelude.{◌≡◌};
-    ghost use Rattle.rest_routes.specs.Places.{rows};
+    ghost use Rattle.rest_routes.specs.Endpoints.{rows};
 
     ghost view = { λ t. t.router };
 
@@ -45,7 +45,7 @@ fn out_of_memory(error: InsertError) -> NoMemory
 #[tactic(auto, using(crate::proofs::Rows::inserted, crate::proofs::Rows::only_memory, crate::proofs::Rows::later_taken))]
 fn router_of(
     alloc: Global,
-    routes: &[(&str, Place, Methods)],
+    routes: &[(&str, Endpoint, Methods)],
 ) -> Result<matchit::Router<Line>, NoMemory>
     requires { are_taken (map (λ r. (r.0.now, line_with r.1 r.2)) routes.now) [] ≡ true }
     ensures { IfOk result (λ r. r ≡ rows_after (map (λ r. (r.0.now, line_with r.1 r.2)) routes.now) []) }
@@ -53,7 +53,7 @@ fn router_of(
     let mut router = matchit::Router::new(alloc);
     for route in routes {
         let line = Line {
-            place: route.1,
+            endpoint: route.1,
             offers: route.2,
         };
         if let Err(error) = router.insert(route.0, line) {
@@ -63,7 +63,7 @@ fn router_of(
     Ok(router)
 }
 
-#[tactic(auto, unfolding(crate::specs::Places::rows, crate::specs::Places::routes))]
+#[tactic(auto, unfolding(crate::specs::Endpoints::rows, crate::specs::Endpoints::routes))]
 fn full_router(alloc: Global) -> Result<matchit::Router<Line>, NoMemory>
     ensures { IfOk result (λ r. r ≡ rows) }
 {
@@ -80,7 +80,7 @@ impl PathTable {
     }
 
     /// The line of the table that a path belongs to, if it is listed.
-    #[tactic(auto, unfolding(crate::specs::Places::line_of))]
+    #[tactic(auto, unfolding(crate::specs::Endpoints::line_of))]
     pub fn line_of(&self, path: &str) -> Option<Line>
         ensures { result ≡ line_of path.now }
     {

@@ -6,7 +6,7 @@ ghost use Rattle.rest_routes.specs.WithBody.{creation_from_body, snapshot_to_res
 ghost use Rattle.rest_routes.specs.WithBody.{action_from_body};
 ghost use Rattle.rest_routes.specs.WithBody.{what_from_body, what_with_body};
 
-use crate::places::{Place, Verb};
+use crate::endpoints::{Endpoint, Verb};
 use crate::refusals::{plain_refusal, refusal_on_key};
 use crate::shapes::shape_of;
 use crate::targets::{object_of, target_at_path};
@@ -94,45 +94,45 @@ fn action_from_body(alloc: Global, path: &str, body: &SentBody) -> Result<What, 
 /// What a body of a shape asks for.
 fn what_from_body(
     alloc: Global,
-    place: Place,
+    endpoint: Endpoint,
     verb: Verb,
     path: &str,
     shape: Shape,
     body: &SentBody,
 ) -> Result<What, Or<Refusal>>
-    ensures { Gives result (what_from_body place verb path.now shape (view body.now)) }
+    ensures { Gives result (what_from_body endpoint verb path.now shape (view body.now)) }
 {
-    match place {
-        Place::List(kind) => Ok(creation_from_body(alloc, kind, path, shape, body)?),
-        Place::One(kind) => {
+    match endpoint {
+        Endpoint::List(kind) => Ok(creation_from_body(alloc, kind, path, shape, body)?),
+        Endpoint::One(kind) => {
             let of = object_of(alloc, kind, path)?;
             Ok(change_from_body(alloc, verb, of, shape, body)?)
         }
-        Place::State => action_from_body(alloc, path, body),
+        Endpoint::State => action_from_body(alloc, path, body),
         _ => Err(plain_refusal(alloc, Rule::A2)),
     }
 }
 
-/// What POST, PUT and PATCH ask for at a place.
+/// What POST, PUT and PATCH ask for at an endpoint.
 #[tactic(auto, unfolding(crate::specs::WithBody::what_with_body))]
 pub(crate) fn what_with_body(
     alloc: Global,
-    place: Place,
+    endpoint: Endpoint,
     verb: Verb,
     path: &str,
     sent: &Option<Value>,
 ) -> Result<What, Or<Refusal>>
-    ensures { Gives result (what_with_body place verb path.now (option_map view sent.now)) }
+    ensures { Gives result (what_with_body endpoint verb path.now (option_map view sent.now)) }
 {
     let Some(value) = sent else {
         return Err(plain_refusal(alloc, Rule::A4));
     };
     let body = SentBody::new(value);
-    let Some(shape) = shape_of(place, verb, &body) else {
+    let Some(shape) = shape_of(endpoint, verb, &body) else {
         return Err(plain_refusal(alloc, Rule::A2));
     };
     match judge_fields(shape, &body) {
         Some(key) => Err(refusal_on_key(alloc, Rule::A5, key)),
-        None => what_from_body(alloc, place, verb, path, shape, &body),
+        None => what_from_body(alloc, endpoint, verb, path, shape, &body),
     }
 }

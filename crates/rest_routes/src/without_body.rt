@@ -3,7 +3,7 @@ ghost use Rattle.std.specs.Prelude.{◌≡◌};
 ghost use Rattle.rest_routes.specs.Answers.{Gives};
 ghost use Rattle.rest_routes.specs.WithoutBody.{get_or_delete, get_or_cancel, get_or_delete_at, what_without_body};
 
-use crate::places::{Place, Verb};
+use crate::endpoints::{Endpoint, Verb};
 use crate::query::{Query, wait_timeout, wants_objects};
 use crate::refusals::plain_refusal;
 use crate::targets::{object_of, objects_of, operation_at};
@@ -45,35 +45,35 @@ fn get_or_delete_at(
     }
 }
 
-/// What GET and DELETE ask for at a place.
+/// What GET and DELETE ask for at an endpoint.
 pub(crate) fn what_without_body(
     alloc: Global,
-    place: Place,
+    endpoint: Endpoint,
     verb: Verb,
     path: &str,
     query: &Query,
     boot: u64,
 ) -> Result<What, Or<Refusal>>
-    ensures { Gives result (what_without_body place verb path.now query.now boot) }
+    ensures { Gives result (what_without_body endpoint verb path.now query.now boot) }
 {
-    match place {
-        Place::Root => Ok(What::Root),
-        Place::Server => Ok(What::Server),
-        Place::List(kind) => Ok(What::List {
+    match endpoint {
+        Endpoint::Root => Ok(What::Root),
+        Endpoint::Server => Ok(What::Server),
+        Endpoint::List(kind) => Ok(What::List {
             of: objects_of(alloc, kind, path)?,
             recursion: wants_objects(query),
         }),
-        Place::One(kind) => get_or_delete_at(alloc, kind, verb, path, boot),
-        Place::Usage => Ok(What::State {
+        Endpoint::One(kind) => get_or_delete_at(alloc, kind, verb, path, boot),
+        Endpoint::Usage => Ok(What::State {
             of: object_of(alloc, ObjectKind::Project, path)?,
         }),
-        Place::State => Ok(What::State {
+        Endpoint::State => Ok(What::State {
             of: object_of(alloc, ObjectKind::Instance, path)?,
         }),
-        Place::Wait => Ok(What::Wait {
+        Endpoint::Wait => Ok(What::Wait {
             op: operation_at(alloc, path, boot)?,
             timeout: wait_timeout(query),
         }),
-        Place::Events => Err(plain_refusal(alloc, Rule::A6)),
+        Endpoint::Events => Err(plain_refusal(alloc, Rule::A6)),
     }
 }

@@ -21,7 +21,7 @@ use Rattle.row_machine.specs.machine.NameRules.{is_there}
 use Rattle.row_machine.specs.opening.Opening.{default_project, home_missing}
 use Rattle.row_machine.specs.machine.Usage.{used}
 use Rattle.row_machine.specs.machine.Claims.{project_of_row}
-use Rattle.row_machine.specs.shown.Links.{target_of}
+use Rattle.row_machine.specs.shown.Urls.{target_of}
 use Rattle.row_machine.specs.machine.Holders.{keeps_busy}
 use Rattle.row_machine.specs.facts.Whole.{IsWhole, AreNamed, ReferencesExist, HasDefaults, AreSettled, IsByDeed, IsBusyOnce, IsUnderWay, AreWithin, AreBalanced, AreFew}
 use Rattle.row_machine.specs.examples.Scenes.{begin, state_after}
@@ -56,7 +56,7 @@ use Rattle.restrictions.specs.Forbids.{setting_lines, device_lines as restrictio
 use Rattle.restrictions.specs.Policies.{policy_of}
 use Rattle.restrictions.specs.Words.{word_named, is_true}
 use Rattle.project_limits.specs.Admission.{first_over, networks_over}
-use Rattle.project_limits.specs.Countable.{first_uncounted, volume_uncounted}
+use Rattle.project_limits.specs.Countable.{first_without_amount, volume_without_amount}
 use Rattle.project_limits.specs.Instance.{cpu_in, memory_in, disk_in, instance_amounts, volume_amounts}
 use Rattle.project_limits.specs.Limits.{count_in, size_in, limits_of}
 use Rattle.row_codec.specs.Reading.{count_at, number_at, moment_at, code_at, text_at, items_at, list_at, filled_at, next_at, next_filled_at, setting_at, device_at, shape_at, project_in, profile_in, network_in, pool_in, volume_in, instance_in, snapshot_in, two_names_in, three_names_in, read_project, read_profile, read_network, read_pool, read_volume, read_instance, read_snapshot, row_at}
@@ -66,7 +66,7 @@ use Rattle.row_machine.specs.machine.Claims.{judged_instances, judged_volumes, a
 use Rattle.row_machine.specs.machine.Expansions.{expanded_of}
 use Rattle.row_machine.specs.machine.Holders.{busy_with, holder_of, first_user_of}
 use Rattle.row_machine.specs.machine.Homes.{home_of}
-use Rattle.row_machine.specs.machine.LimitRules.{instance_uncounted, volume_uncounts, counts_broken, part_exceeds, networks_exceed, limits_broken}
+use Rattle.row_machine.specs.machine.LimitRules.{instance_without_amount, volume_lacks_amount, counts_broken, part_exceeds, networks_exceed, limits_broken}
 use Rattle.row_machine.specs.machine.NameRules.{project_missing, what_is_missing, name_broken}
 use Rattle.row_machine.specs.machine.Rules.{names_broken}
 use Rattle.row_machine.specs.shown.Notices.{since}
@@ -82,7 +82,7 @@ use Rattle.row_machine.specs.machine.Step.{step}
 use Rattle.row_machine.specs.machine.TableRules.{cancel_broken, entry_broken, tables_broken}
 use Rattle.row_machine.specs.machine.Usage.{loads, usage_of, networks_of}
 use Rattle.row_machine.specs.shown.Views.{used_by, usage_view, read}
-use Rattle.row_machine.specs.machine.Work.{entered, succeeded, failed, cancelled}
+use Rattle.row_machine.specs.machine.Operations.{entered, succeeded, failed, cancelled}
 use Rattle.std.specs.Fmt.{digits}
 
 -- ---- words
@@ -172,12 +172,12 @@ unfolding
     is_instance_name is_project_name is_object_name names_network names_pool names_volume laid expanded expanded_setting
     expanded_device setting_lines restrictions_forbids_device_lines device_rule setting_rule broken_settings
     missing_setting broken_devices first_forbidden snapshots_forbidden policy_of word_named is_true first_over
-    networks_over first_uncounted volume_uncounted cpu_in memory_in disk_in instance_amounts volume_amounts count_in
+    networks_over first_without_amount volume_without_amount cpu_in memory_in disk_in instance_amounts volume_amounts count_in
     size_in limits_of count_at number_at moment_at code_at text_at items_at list_at filled_at next_at next_filled_at
     setting_at device_at shape_at project_in profile_in network_in pool_in volume_in instance_in snapshot_in two_names_in
     three_names_in read_project read_profile read_network read_pool read_volume read_instance read_snapshot row_at text_bytes
     number_bytes list_bytes accepted judged_instances judged_volumes amounts_of_instance share_of expanded_of busy_with
-    holder_of first_user_of home_of instance_uncounted volume_uncounts counts_broken part_exceeds networks_exceed
+    holder_of first_user_of home_of instance_without_amount volume_lacks_amount counts_broken part_exceeds networks_exceed
     limits_broken project_missing what_is_missing name_broken names_broken since rows_break opening_of plan_of
     forbids_profile forbids_instance policy_broken snapshot_blocked records_of broken root_missing profile_missing
     devices_miss instance_settings profile_settings row_settings settings_broken instance_busy wrong_state
@@ -208,7 +208,7 @@ names = record {
   new_snapshots = tt;
 }
 
-links : ReferencesExist busy
+references : ReferencesExist busy
 unfolding
     digits address_of cidr_of plus_of minus_of excess_of fits_in count_of set_of cpu_of expiry_of memory_of size_of
     boolean_of settled patched is_root_disk root_of value_of put without replaced keys_fault instance_fault project_fault
@@ -217,18 +217,18 @@ unfolding
     is_instance_name is_project_name is_object_name names_network names_pool names_volume laid expanded expanded_setting
     expanded_device setting_lines restrictions_forbids_device_lines device_rule setting_rule broken_settings
     missing_setting broken_devices first_forbidden snapshots_forbidden policy_of word_named is_true first_over
-    networks_over first_uncounted volume_uncounted cpu_in memory_in disk_in instance_amounts volume_amounts count_in
+    networks_over first_without_amount volume_without_amount cpu_in memory_in disk_in instance_amounts volume_amounts count_in
     size_in limits_of count_at number_at moment_at code_at text_at items_at list_at filled_at next_at next_filled_at
     setting_at device_at shape_at project_in profile_in network_in pool_in volume_in instance_in snapshot_in two_names_in
     three_names_in read_project read_profile read_network read_pool read_volume read_instance read_snapshot row_at text_bytes
     number_bytes list_bytes accepted judged_instances judged_volumes amounts_of_instance share_of expanded_of busy_with
-    holder_of first_user_of home_of instance_uncounted volume_uncounts counts_broken part_exceeds networks_exceed
+    holder_of first_user_of home_of instance_without_amount volume_lacks_amount counts_broken part_exceeds networks_exceed
     limits_broken project_missing what_is_missing name_broken names_broken since rows_break opening_of plan_of
     forbids_profile forbids_instance policy_broken snapshot_blocked records_of broken root_missing profile_missing
     devices_miss instance_settings profile_settings row_settings settings_broken instance_busy wrong_state
     object_protected object_used project_occupied profile_held standing_broken step cancel_broken entry_broken
     tables_broken loads usage_of networks_of used_by usage_view read entered succeeded failed cancelled
-links = record {
+references = record {
   homes = Each-cons _ refl (pair _ refl refl (pair _ refl refl Each-none));
   volumes = Each-none;
   snapshots = Each-none;
@@ -279,12 +279,12 @@ unfolding
     is_instance_name is_project_name is_object_name names_network names_pool names_volume laid expanded expanded_setting
     expanded_device setting_lines restrictions_forbids_device_lines device_rule setting_rule broken_settings
     missing_setting broken_devices first_forbidden snapshots_forbidden policy_of word_named is_true first_over
-    networks_over first_uncounted volume_uncounted cpu_in memory_in disk_in instance_amounts volume_amounts count_in
+    networks_over first_without_amount volume_without_amount cpu_in memory_in disk_in instance_amounts volume_amounts count_in
     size_in limits_of count_at number_at moment_at code_at text_at items_at list_at filled_at next_at next_filled_at
     setting_at device_at shape_at project_in profile_in network_in pool_in volume_in instance_in snapshot_in two_names_in
     three_names_in read_project read_profile read_network read_pool read_volume read_instance read_snapshot row_at text_bytes
     number_bytes list_bytes accepted judged_instances judged_volumes amounts_of_instance share_of expanded_of busy_with
-    holder_of first_user_of home_of instance_uncounted volume_uncounts counts_broken part_exceeds networks_exceed
+    holder_of first_user_of home_of instance_without_amount volume_lacks_amount counts_broken part_exceeds networks_exceed
     limits_broken project_missing what_is_missing name_broken names_broken since rows_break opening_of plan_of
     forbids_profile forbids_instance policy_broken snapshot_blocked records_of broken root_missing profile_missing
     devices_miss instance_settings profile_settings row_settings settings_broken instance_busy wrong_state
@@ -301,12 +301,12 @@ unfolding
     is_instance_name is_project_name is_object_name names_network names_pool names_volume laid expanded expanded_setting
     expanded_device setting_lines restrictions_forbids_device_lines device_rule setting_rule broken_settings
     missing_setting broken_devices first_forbidden snapshots_forbidden policy_of word_named is_true first_over
-    networks_over first_uncounted volume_uncounted cpu_in memory_in disk_in instance_amounts volume_amounts count_in
+    networks_over first_without_amount volume_without_amount cpu_in memory_in disk_in instance_amounts volume_amounts count_in
     size_in limits_of count_at number_at moment_at code_at text_at items_at list_at filled_at next_at next_filled_at
     setting_at device_at shape_at project_in profile_in network_in pool_in volume_in instance_in snapshot_in two_names_in
     three_names_in read_project read_profile read_network read_pool read_volume read_instance read_snapshot row_at text_bytes
     number_bytes list_bytes accepted judged_instances judged_volumes amounts_of_instance share_of expanded_of busy_with
-    holder_of first_user_of home_of instance_uncounted volume_uncounts counts_broken part_exceeds networks_exceed
+    holder_of first_user_of home_of instance_without_amount volume_lacks_amount counts_broken part_exceeds networks_exceed
     limits_broken project_missing what_is_missing name_broken names_broken since rows_break opening_of plan_of
     forbids_profile forbids_instance policy_broken snapshot_blocked records_of broken root_missing profile_missing
     devices_miss instance_settings profile_settings row_settings settings_broken instance_busy wrong_state
@@ -327,12 +327,12 @@ unfolding
     is_instance_name is_project_name is_object_name names_network names_pool names_volume laid expanded expanded_setting
     expanded_device setting_lines restrictions_forbids_device_lines device_rule setting_rule broken_settings
     missing_setting broken_devices first_forbidden snapshots_forbidden policy_of word_named is_true first_over
-    networks_over first_uncounted volume_uncounted cpu_in memory_in disk_in instance_amounts volume_amounts count_in
+    networks_over first_without_amount volume_without_amount cpu_in memory_in disk_in instance_amounts volume_amounts count_in
     size_in limits_of count_at number_at moment_at code_at text_at items_at list_at filled_at next_at next_filled_at
     setting_at device_at shape_at project_in profile_in network_in pool_in volume_in instance_in snapshot_in two_names_in
     three_names_in read_project read_profile read_network read_pool read_volume read_instance read_snapshot row_at text_bytes
     number_bytes list_bytes accepted judged_instances judged_volumes amounts_of_instance share_of expanded_of busy_with
-    holder_of first_user_of home_of instance_uncounted volume_uncounts counts_broken part_exceeds networks_exceed
+    holder_of first_user_of home_of instance_without_amount volume_lacks_amount counts_broken part_exceeds networks_exceed
     limits_broken project_missing what_is_missing name_broken names_broken since rows_break opening_of plan_of
     forbids_profile forbids_instance policy_broken snapshot_blocked records_of broken root_missing profile_missing
     devices_miss instance_settings profile_settings row_settings settings_broken instance_busy wrong_state
@@ -366,12 +366,12 @@ unfolding
     is_instance_name is_project_name is_object_name names_network names_pool names_volume laid expanded expanded_setting
     expanded_device setting_lines restrictions_forbids_device_lines device_rule setting_rule broken_settings
     missing_setting broken_devices first_forbidden snapshots_forbidden policy_of word_named is_true first_over
-    networks_over first_uncounted volume_uncounted cpu_in memory_in disk_in instance_amounts volume_amounts count_in
+    networks_over first_without_amount volume_without_amount cpu_in memory_in disk_in instance_amounts volume_amounts count_in
     size_in limits_of count_at number_at moment_at code_at text_at items_at list_at filled_at next_at next_filled_at
     setting_at device_at shape_at project_in profile_in network_in pool_in volume_in instance_in snapshot_in two_names_in
     three_names_in read_project read_profile read_network read_pool read_volume read_instance read_snapshot row_at text_bytes
     number_bytes list_bytes accepted judged_instances judged_volumes amounts_of_instance share_of expanded_of busy_with
-    holder_of first_user_of home_of instance_uncounted volume_uncounts counts_broken part_exceeds networks_exceed
+    holder_of first_user_of home_of instance_without_amount volume_lacks_amount counts_broken part_exceeds networks_exceed
     limits_broken project_missing what_is_missing name_broken names_broken since rows_break opening_of plan_of
     forbids_profile forbids_instance policy_broken snapshot_blocked records_of broken root_missing profile_missing
     devices_miss instance_settings profile_settings row_settings settings_broken instance_busy wrong_state
@@ -416,12 +416,12 @@ unfolding
     is_instance_name is_project_name is_object_name names_network names_pool names_volume laid expanded expanded_setting
     expanded_device setting_lines restrictions_forbids_device_lines device_rule setting_rule broken_settings
     missing_setting broken_devices first_forbidden snapshots_forbidden policy_of word_named is_true first_over
-    networks_over first_uncounted volume_uncounted cpu_in memory_in disk_in instance_amounts volume_amounts count_in
+    networks_over first_without_amount volume_without_amount cpu_in memory_in disk_in instance_amounts volume_amounts count_in
     size_in limits_of count_at number_at moment_at code_at text_at items_at list_at filled_at next_at next_filled_at
     setting_at device_at shape_at project_in profile_in network_in pool_in volume_in instance_in snapshot_in two_names_in
     three_names_in read_project read_profile read_network read_pool read_volume read_instance read_snapshot row_at text_bytes
     number_bytes list_bytes accepted judged_instances judged_volumes amounts_of_instance share_of expanded_of busy_with
-    holder_of first_user_of home_of instance_uncounted volume_uncounts counts_broken part_exceeds networks_exceed
+    holder_of first_user_of home_of instance_without_amount volume_lacks_amount counts_broken part_exceeds networks_exceed
     limits_broken project_missing what_is_missing name_broken names_broken since rows_break opening_of plan_of
     forbids_profile forbids_instance policy_broken snapshot_blocked records_of broken root_missing profile_missing
     devices_miss instance_settings profile_settings row_settings settings_broken instance_busy wrong_state
@@ -443,12 +443,12 @@ unfolding
     is_instance_name is_project_name is_object_name names_network names_pool names_volume laid expanded expanded_setting
     expanded_device setting_lines restrictions_forbids_device_lines device_rule setting_rule broken_settings
     missing_setting broken_devices first_forbidden snapshots_forbidden policy_of word_named is_true first_over
-    networks_over first_uncounted volume_uncounted cpu_in memory_in disk_in instance_amounts volume_amounts count_in
+    networks_over first_without_amount volume_without_amount cpu_in memory_in disk_in instance_amounts volume_amounts count_in
     size_in limits_of count_at number_at moment_at code_at text_at items_at list_at filled_at next_at next_filled_at
     setting_at device_at shape_at project_in profile_in network_in pool_in volume_in instance_in snapshot_in two_names_in
     three_names_in read_project read_profile read_network read_pool read_volume read_instance read_snapshot row_at text_bytes
     number_bytes list_bytes accepted judged_instances judged_volumes amounts_of_instance share_of expanded_of busy_with
-    holder_of first_user_of home_of instance_uncounted volume_uncounts counts_broken part_exceeds networks_exceed
+    holder_of first_user_of home_of instance_without_amount volume_lacks_amount counts_broken part_exceeds networks_exceed
     limits_broken project_missing what_is_missing name_broken names_broken since rows_break opening_of plan_of
     forbids_profile forbids_instance policy_broken snapshot_blocked records_of broken root_missing profile_missing
     devices_miss instance_settings profile_settings row_settings settings_broken instance_busy wrong_state
@@ -470,12 +470,12 @@ unfolding
     is_instance_name is_project_name is_object_name names_network names_pool names_volume laid expanded expanded_setting
     expanded_device setting_lines restrictions_forbids_device_lines device_rule setting_rule broken_settings
     missing_setting broken_devices first_forbidden snapshots_forbidden policy_of word_named is_true first_over
-    networks_over first_uncounted volume_uncounted cpu_in memory_in disk_in instance_amounts volume_amounts count_in
+    networks_over first_without_amount volume_without_amount cpu_in memory_in disk_in instance_amounts volume_amounts count_in
     size_in limits_of count_at number_at moment_at code_at text_at items_at list_at filled_at next_at next_filled_at
     setting_at device_at shape_at project_in profile_in network_in pool_in volume_in instance_in snapshot_in two_names_in
     three_names_in read_project read_profile read_network read_pool read_volume read_instance read_snapshot row_at text_bytes
     number_bytes list_bytes accepted judged_instances judged_volumes amounts_of_instance share_of expanded_of busy_with
-    holder_of first_user_of home_of instance_uncounted volume_uncounts counts_broken part_exceeds networks_exceed
+    holder_of first_user_of home_of instance_without_amount volume_lacks_amount counts_broken part_exceeds networks_exceed
     limits_broken project_missing what_is_missing name_broken names_broken since rows_break opening_of plan_of
     forbids_profile forbids_instance policy_broken snapshot_blocked records_of broken root_missing profile_missing
     devices_miss instance_settings profile_settings row_settings settings_broken instance_busy wrong_state
@@ -511,12 +511,12 @@ unfolding
     is_instance_name is_project_name is_object_name names_network names_pool names_volume laid expanded expanded_setting
     expanded_device setting_lines restrictions_forbids_device_lines device_rule setting_rule broken_settings
     missing_setting broken_devices first_forbidden snapshots_forbidden policy_of word_named is_true first_over
-    networks_over first_uncounted volume_uncounted cpu_in memory_in disk_in instance_amounts volume_amounts count_in
+    networks_over first_without_amount volume_without_amount cpu_in memory_in disk_in instance_amounts volume_amounts count_in
     size_in limits_of count_at number_at moment_at code_at text_at items_at list_at filled_at next_at next_filled_at
     setting_at device_at shape_at project_in profile_in network_in pool_in volume_in instance_in snapshot_in two_names_in
     three_names_in read_project read_profile read_network read_pool read_volume read_instance read_snapshot row_at text_bytes
     number_bytes list_bytes accepted judged_instances judged_volumes amounts_of_instance share_of expanded_of busy_with
-    holder_of first_user_of home_of instance_uncounted volume_uncounts counts_broken part_exceeds networks_exceed
+    holder_of first_user_of home_of instance_without_amount volume_lacks_amount counts_broken part_exceeds networks_exceed
     limits_broken project_missing what_is_missing name_broken names_broken since rows_break opening_of plan_of
     forbids_profile forbids_instance policy_broken snapshot_blocked records_of broken root_missing profile_missing
     devices_miss instance_settings profile_settings row_settings settings_broken instance_busy wrong_state
@@ -541,12 +541,12 @@ unfolding
     is_instance_name is_project_name is_object_name names_network names_pool names_volume laid expanded expanded_setting
     expanded_device setting_lines restrictions_forbids_device_lines device_rule setting_rule broken_settings
     missing_setting broken_devices first_forbidden snapshots_forbidden policy_of word_named is_true first_over
-    networks_over first_uncounted volume_uncounted cpu_in memory_in disk_in instance_amounts volume_amounts count_in
+    networks_over first_without_amount volume_without_amount cpu_in memory_in disk_in instance_amounts volume_amounts count_in
     size_in limits_of count_at number_at moment_at code_at text_at items_at list_at filled_at next_at next_filled_at
     setting_at device_at shape_at project_in profile_in network_in pool_in volume_in instance_in snapshot_in two_names_in
     three_names_in read_project read_profile read_network read_pool read_volume read_instance read_snapshot row_at text_bytes
     number_bytes list_bytes accepted judged_instances judged_volumes amounts_of_instance share_of expanded_of busy_with
-    holder_of first_user_of home_of instance_uncounted volume_uncounts counts_broken part_exceeds networks_exceed
+    holder_of first_user_of home_of instance_without_amount volume_lacks_amount counts_broken part_exceeds networks_exceed
     limits_broken project_missing what_is_missing name_broken names_broken since rows_break opening_of plan_of
     forbids_profile forbids_instance policy_broken snapshot_blocked records_of broken root_missing profile_missing
     devices_miss instance_settings profile_settings row_settings settings_broken instance_busy wrong_state
@@ -579,12 +579,12 @@ unfolding
     is_instance_name is_project_name is_object_name names_network names_pool names_volume laid expanded expanded_setting
     expanded_device setting_lines restrictions_forbids_device_lines device_rule setting_rule broken_settings
     missing_setting broken_devices first_forbidden snapshots_forbidden policy_of word_named is_true first_over
-    networks_over first_uncounted volume_uncounted cpu_in memory_in disk_in instance_amounts volume_amounts count_in
+    networks_over first_without_amount volume_without_amount cpu_in memory_in disk_in instance_amounts volume_amounts count_in
     size_in limits_of count_at number_at moment_at code_at text_at items_at list_at filled_at next_at next_filled_at
     setting_at device_at shape_at project_in profile_in network_in pool_in volume_in instance_in snapshot_in two_names_in
     three_names_in read_project read_profile read_network read_pool read_volume read_instance read_snapshot row_at text_bytes
     number_bytes list_bytes accepted judged_instances judged_volumes amounts_of_instance share_of expanded_of busy_with
-    holder_of first_user_of home_of instance_uncounted volume_uncounts counts_broken part_exceeds networks_exceed
+    holder_of first_user_of home_of instance_without_amount volume_lacks_amount counts_broken part_exceeds networks_exceed
     limits_broken project_missing what_is_missing name_broken names_broken since rows_break opening_of plan_of
     forbids_profile forbids_instance policy_broken snapshot_blocked records_of broken root_missing profile_missing
     devices_miss instance_settings profile_settings row_settings settings_broken instance_busy wrong_state
@@ -608,12 +608,12 @@ unfolding
     is_instance_name is_project_name is_object_name names_network names_pool names_volume laid expanded expanded_setting
     expanded_device setting_lines restrictions_forbids_device_lines device_rule setting_rule broken_settings
     missing_setting broken_devices first_forbidden snapshots_forbidden policy_of word_named is_true first_over
-    networks_over first_uncounted volume_uncounted cpu_in memory_in disk_in instance_amounts volume_amounts count_in
+    networks_over first_without_amount volume_without_amount cpu_in memory_in disk_in instance_amounts volume_amounts count_in
     size_in limits_of count_at number_at moment_at code_at text_at items_at list_at filled_at next_at next_filled_at
     setting_at device_at shape_at project_in profile_in network_in pool_in volume_in instance_in snapshot_in two_names_in
     three_names_in read_project read_profile read_network read_pool read_volume read_instance read_snapshot row_at text_bytes
     number_bytes list_bytes accepted judged_instances judged_volumes amounts_of_instance share_of expanded_of busy_with
-    holder_of first_user_of home_of instance_uncounted volume_uncounts counts_broken part_exceeds networks_exceed
+    holder_of first_user_of home_of instance_without_amount volume_lacks_amount counts_broken part_exceeds networks_exceed
     limits_broken project_missing what_is_missing name_broken names_broken since rows_break opening_of plan_of
     forbids_profile forbids_instance policy_broken snapshot_blocked records_of broken root_missing profile_missing
     devices_miss instance_settings profile_settings row_settings settings_broken instance_busy wrong_state
@@ -623,7 +623,7 @@ busy-whole = record { live = refl; whole = whole } where
   whole : IsWhole busy
   whole = record {
     names = names;
-    links = links;
+    references = references;
     defaults = defaults;
     settings = settings;
     operations = record { kept = kept; busy = busy-once; deeds = deeds };

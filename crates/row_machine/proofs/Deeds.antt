@@ -2,7 +2,7 @@
 use Rattle.std.proofs.Common.{◌≡◌, List, [], ◌∷◌, map, refl, ap, inl}
 use Rattle.plain_lists.proofs.Elements.{Mem-right}
 use Rattle.records.specs.declared.notices.Life.{Life}
-use Rattle.row_machine.specs.machine.Work.{entered}
+use Rattle.row_machine.specs.machine.Operations.{entered}
 use Rattle.row_machine.specs.shown.Notices.{life_notice, deed_lives, object_told}
 use Rattle.row_machine.specs.facts.Laws.{DeletesInstances, at_moment, SuccessIsFixed}
 

@@ -13,7 +13,7 @@ use Rattle.operations.specs.declared.operation.OpFault.TheVariants as fault
 use Rattle.operations.specs.declared.status.Status.{Status}
 use Rattle.operations.specs.declared.status.Status.TheVariants as status
 use Rattle.operations.specs.declared.faults.CancelFault.{CancelFault}
-use Rattle.operations.specs.Kept.{Kept, live_at, kept_at, cancel_answer, ends}
+use Rattle.operations.specs.OperationTable.{OperationTable, live_at, kept_at, cancel_answer, ends}
 use Rattle.records.specs.declared.commands.Command.{Command}
 use Rattle.records.specs.declared.commands.What.{What}
 use Rattle.records.specs.declared.commands.What.TheVariants as what
@@ -34,7 +34,7 @@ use Rattle.row_machine.specs.machine.Task.{Task}
 use Rattle.row_machine.specs.machine.State.{State}
 use Rattle.row_machine.specs.machine.Changes.{with_row, without_row, applied}
 use Rattle.row_machine.specs.machine.Plans.{Plan, nothing, changes, starts, plan_of}
-use Rattle.row_machine.specs.machine.Work.{entered, moved, with_task, succeeded, failed, cancelled, after_failure, with_power_after, power_after, success_changes}
+use Rattle.row_machine.specs.machine.Operations.{entered, moved, with_task, succeeded, failed, cancelled, after_failure, with_power_after, power_after, success_changes}
 use Rattle.row_machine.specs.shown.Notices.{telling, push_notice, operation_notice, change_notices, success_notices, view_of}
 use Rattle.row_machine.specs.machine.Rules.{broken}
 use Rattle.row_machine.specs.machine.Accept.{After, accepted, carried_out, begun, with_operation_notice, cancel, after_cancel, cancel_or_read, started}
@@ -69,7 +69,7 @@ applied-operations (change.Put r ∷ cs) s = applied-operations cs (with_row r s
 applied-operations (change.Remove of key ∷ cs) s = applied-operations cs (without_row of key s) ∙ removed-operations of key s
 
 -- of two states with the same operations, either
-either-operations : (b : Bool) (s t : State) (k : Kept Task) → s.operations ≡ k → t.operations ≡ k → (cond b s t).operations ≡ k
+either-operations : (b : Bool) (s t : State) (k : OperationTable Task) → s.operations ≡ k → t.operations ≡ k → (cond b s t).operations ≡ k
 either-operations true s t k left right = left
 either-operations false s t k left right = right
 
@@ -86,10 +86,10 @@ told-operations s number moment = telling-operations (operation_notice s number 
 -- ---- moves
 
 -- where operations are the same, or those of a state that moved
-to-same : {k l m : Kept Task} → m ≡ l → Moves k l → Moves k m
+to-same : {k l m : OperationTable Task} → m ≡ l → Moves k l → Moves k m
 to-same {k} same h = subst (λ x. Moves k x) (sym same) h
 
-moves-told : {k : Kept Task} (s : State) (number moment : ℕ) → Moves k s.operations → Moves k (with_operation_notice s number moment).operations
+moves-told : {k : OperationTable Task} (s : State) (number moment : ℕ) → Moves k s.operations → Moves k (with_operation_notice s number moment).operations
 moves-told s number moment h = to-same (told-operations s number moment) h
 
 moves-moved : (s : State) (n : ℕ) (now : Status) (moment : ℕ) → Moves s.operations (moved n now moment s).operations
@@ -108,7 +108,7 @@ failure-operations task done s = either-operations _ _ s s.operations refl refl
 moves-failed : (s : State) (o : Operation Task) (why : OpFault) (done moment : ℕ) → Moves s.operations (failed s o why done moment).operations
 unfolding failed
 moves-failed s o why done moment = subst (λ k. Moves s.operations (ends_of k)) (sym (failure-operations o.work done s)) (over o.number status.Failure why moment) where
-  ends_of : Kept Task → Kept Task
+  ends_of : OperationTable Task → OperationTable Task
   ends_of k = ends o.number status.Failure why moment k
 
 power-operations : (task : Task) (power : Option _) (s : State) → (with_power_after task power s).operations ≡ s.operations
@@ -120,7 +120,7 @@ unfolding succeeded
 moves-succeeded s o moment = subst (λ k. Moves s.operations (ends_of k))
     (sym (applied-operations (success_changes s o.work) (with_power_after o.work (power_after s o.work) s) ∙ power-operations o.work (power_after s o.work) s))
     (over o.number status.Success fault.None moment) where
-      ends_of : Kept Task → Kept Task
+      ends_of : OperationTable Task → OperationTable Task
       ends_of k = ends o.number status.Success fault.None moment k
 
 -- ---- steps

@@ -14,38 +14,38 @@ use Rattle.operations.specs.Limits.{most_ended}
 use Rattle.operations.specs.declared.operation.Operation.{Operation}
 use Rattle.operations.specs.declared.operation.OpFault.{OpFault}
 use Rattle.operations.specs.declared.status.Status.{Status}
-use Rattle.operations.specs.Kept.{Kept, has_number, live_at, kept_at, entered, ends}
+use Rattle.operations.specs.OperationTable.{OperationTable, has_number, live_at, kept_at, entered, ends}
 use Rattle.operations.specs.Facts.{AreKept}
 
 -- the kept operations after some steps
-pub data Moves {W : Type 0} : Kept W → Kept W → Type 0 where
-  stays : {k : Kept W} → Moves k k
-  enters : {k : Kept W} (may : Bool) (work : W) (moment : ℕ) → Moves k (entered may work moment k)
-  changes : {k : Kept W} (n : ℕ) (f : Operation W → Operation W) → ((o : Operation W) → (f o).number ≡ o.number)
+pub data Moves {W : Type 0} : OperationTable W → OperationTable W → Type 0 where
+  stays : {k : OperationTable W} → Moves k k
+  enters : {k : OperationTable W} (may : Bool) (work : W) (moment : ℕ) → Moves k (entered may work moment k)
+  changes : {k : OperationTable W} (n : ℕ) (f : Operation W → Operation W) → ((o : Operation W) → (f o).number ≡ o.number)
       → Moves k (record k { live = changed_first (has_number n) f k.live })
-  over : {k : Kept W} (n : ℕ) (st : Status) (why : OpFault) (moment : ℕ) → Moves k (ends n st why moment k)
-  both : {k l m : Kept W} → Moves k l → Moves l m → Moves k m
+  over : {k : OperationTable W} (n : ℕ) (st : Status) (why : OpFault) (moment : ℕ) → Moves k (ends n st why moment k)
+  both : {k l m : OperationTable W} → Moves k l → Moves l m → Moves k m
 
 -- ---- live numbers are distinct and below the next one
 
-pub record AreLive {W : Type 0} (k : Kept W) : Type 0 where
+pub record AreLive {W : Type 0} (k : OperationTable W) : Type 0 where
   pub distinct : Distinct (λ (o : Operation W). o.number) k.live
   pub below : Each (λ (o : Operation W). o.number < k.next) k.live
 
-pub kept-live : {W : Type 0} {k : Kept W} → AreKept k → AreLive k
+pub kept-live : {W : Type 0} {k : OperationTable W} → AreKept k → AreLive k
 kept-live {W} {k} h = record {
   distinct = Distinct-left (λ (o : Operation W). o.number) k.live k.ended h.numbered.distinct;
   below = Each-left k.ended h.numbered.below_next;
 }
 
-pub moves-next : {W : Type 0} {k l : Kept W} → Moves k l → k.next ≤ l.next
+pub moves-next : {W : Type 0} {k l : OperationTable W} → Moves k l → k.next ≤ l.next
 moves-next stays = omega arith
 moves-next (enters may work moment) = omega arith
 moves-next (changes n f keeps) = omega arith
 moves-next (over n st why moment) = omega arith
 moves-next (both a b) = omega (arith, moves-next a, moves-next b)
 
-pub moves-live : {W : Type 0} {k l : Kept W} → Moves k l → AreLive k → AreLive l
+pub moves-live : {W : Type 0} {k l : OperationTable W} → Moves k l → AreLive k → AreLive l
 moves-live stays h = h
 moves-live {W} {k} (enters may work moment) h = record {
   distinct = Distinct-push (λ (o : Operation W). o.number) k.live _ h.distinct
@@ -64,11 +64,11 @@ moves-live (both a b) h = moves-live b (moves-live a h)
 
 -- ---- a number that is over: below the next one, and of no live operation
 
-pub record IsOver {W : Type 0} (n : ℕ) (k : Kept W) : Type 0 where
+pub record IsOver {W : Type 0} (n : ℕ) (k : OperationTable W) : Type 0 where
   pub below : n < k.next
   pub gone : Each (λ (o : Operation W). o.number ≢ n) k.live
 
-pub moves-over : {W : Type 0} {k l : Kept W} (n : ℕ) → Moves k l → IsOver n k → IsOver n l
+pub moves-over : {W : Type 0} {k l : OperationTable W} (n : ℕ) → Moves k l → IsOver n k → IsOver n l
 moves-over n stays h = h
 moves-over {W} {k} n (enters may work moment) h = record {
   below = omega (arith, h.below);
@@ -83,11 +83,11 @@ moves-over n (both a b) h = moves-over n b (moves-over n a h)
 
 -- ---- an ended operation
 
-pub record IsSettled {W : Type 0} (o : Operation W) (k : Kept W) : Type 0 where
+pub record IsSettled {W : Type 0} (o : Operation W) (k : OperationTable W) : Type 0 where
   pub over : IsOver o.number k
   pub same : Each (λ (x : Operation W). x.number ≡ o.number → x ≡ o) k.ended
 
-pub kept-settled : {W : Type 0} {k : Kept W} (o : Operation W) → AreKept k → Mem o k.ended → IsSettled o k
+pub kept-settled : {W : Type 0} {k : OperationTable W} (o : Operation W) → AreKept k → Mem o k.ended → IsSettled o k
 kept-settled {W} {k} o h there = record {
   over = record {
     below = (Each-right k.live h.numbered.below_next).at o there;
@@ -96,7 +96,7 @@ kept-settled {W} {k} o h there = record {
   same = record { at = λ x ended same. Distinct-same (λ (y : Operation W). y.number) k.ended x o (Distinct-right (λ (y : Operation W). y.number) k.live k.ended h.numbered.distinct) ended there same };
 }
 
-pub moves-settled : {W : Type 0} {k l : Kept W} (o : Operation W) → Moves k l → IsSettled o k → IsSettled o l
+pub moves-settled : {W : Type 0} {k l : OperationTable W} (o : Operation W) → Moves k l → IsSettled o k → IsSettled o l
 moves-settled o stays h = h
 moves-settled o (enters may work moment) h = record { over = moves-over o.number (enters may work moment) h.over; same = h.same }
 moves-settled o (changes n f keeps) h = record { over = moves-over o.number (changes n f keeps) h.over; same = h.same }
@@ -113,7 +113,7 @@ moves-settled {W} {k} o (over n st why moment) h = record {
 moves-settled o (both a b) h = moves-settled o b (moves-settled o a h)
 
 -- what is kept under its number is the operation itself
-pub settled-is : {W : Type 0} {k : Kept W} (o later : Operation W) → IsSettled o k → kept_at k o.number ≡ Some later → later ≡ o
+pub settled-is : {W : Type 0} {k : OperationTable W} (o later : Operation W) → IsSettled o k → kept_at k o.number ≡ Some later → later ≡ o
 settled-is {W} {k} o later h is = by (Mem-append later k.live k.ended (find-some (has_number o.number) (k.live ++ k.ended) later is).0) where
   number : later.number ≡ o.number
   number = eqb-true later.number o.number (find-some (has_number o.number) (k.live ++ k.ended) later is).1

@@ -11,7 +11,7 @@ use Rattle.plain_lists.proofs.Keys.{Distinct-append}
 use Rattle.plain_lists.proofs.Searches.{find-some, find-none}
 use Rattle.operations.specs.declared.operation.Operation.{Operation}
 use Rattle.operations.specs.declared.status.Status.{Status}
-use Rattle.operations.specs.Kept.{has_number, live_at}
+use Rattle.operations.specs.OperationTable.{has_number, live_at}
 use Rattle.row_machine.specs.declared.events.Event.{Event}
 use Rattle.row_machine.specs.machine.Task.{Task}
 use Rattle.row_machine.specs.machine.State.{State}

@@ -8,4 +8,4 @@ pub use Rattle.row_machine.specs.machine.Asked.{instance_changed, renames_or_del
 pub use Rattle.row_machine.specs.machine.Asked.{with_name}
 pub use Rattle.row_machine.specs.machine.Holders.{busy_with, first_user_of, holder_of, names_profile}
 pub use Rattle.row_machine.specs.shown.Statuses.{power_line, status_line}
-pub use Rattle.row_machine.specs.shown.Links.{target_of}
+pub use Rattle.row_machine.specs.shown.Urls.{target_of}

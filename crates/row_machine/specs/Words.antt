@@ -30,9 +30,9 @@ pub use Rattle.instance_states.specs.Numbers.{next_name, seen, unseen}
 pub use Rattle.instance_states.specs.Plans.{calls_of, name_of, undo_of}
 pub use Rattle.instance_states.specs.States.{after_of, is_allowed}
 pub use Rattle.operations.specs.Facts.{AreKept}
-pub use Rattle.operations.specs.Kept.{by_number, cancel_answer}
-pub use Rattle.operations.specs.Kept.{enter_fault, has_number, kept_at, live_at}
-pub use Rattle.operations.specs.Kept.{no_operations}
+pub use Rattle.operations.specs.OperationTable.{by_number, cancel_answer}
+pub use Rattle.operations.specs.OperationTable.{enter_fault, has_number, kept_at, live_at}
+pub use Rattle.operations.specs.OperationTable.{no_operations}
 pub use Rattle.operations.specs.Limits.{most_live, number_limit}
 pub use Rattle.operations.specs.Statuses.{is_pending}
 pub use Rattle.operations.specs.declared.faults.CancelFault.{CancelFault}
@@ -54,7 +54,7 @@ pub use Rattle.plain_lists.specs.Firsts.{first, first_of}
 pub use Rattle.plain_lists.specs.Members.{Distinct, Each, Mem}
 pub use Rattle.plain_lists.specs.Rings.{ring_push}
 pub use Rattle.project_limits.specs.Admission.{limit_on, exceeded, parts, key_of as key_of_part}
-pub use Rattle.project_limits.specs.Countable.{first_uncounted, volume_uncounted}
+pub use Rattle.project_limits.specs.Countable.{first_without_amount, volume_without_amount}
 pub use Rattle.project_limits.specs.Instance.{instance_amounts, volume_amounts}
 pub use Rattle.project_limits.specs.Limits.{limits_of}
 pub use Rattle.project_limits.specs.declared.admission.LimitKey.{LimitKey}
@@ -71,9 +71,9 @@ pub use Rattle.records.specs.declared.commands.What.{What}
 pub use Rattle.records.specs.declared.notices.Filter.{Filter}
 pub use Rattle.records.specs.declared.notices.Life.{Life}
 pub use Rattle.records.specs.declared.notices.Notice.{Notice}
-pub use Rattle.records.specs.declared.notices.Told.{Told}
+pub use Rattle.records.specs.declared.notices.EventBody.{EventBody}
 pub use Rattle.records.specs.declared.notices.Untold.{Untold}
-pub use Rattle.records.specs.declared.refusals.Kept.{Kept}
+pub use Rattle.records.specs.declared.refusals.Details.{Details}
 pub use Rattle.records.specs.declared.refusals.Refusal.{Refusal}
 pub use Rattle.records.specs.declared.refusals.Rule.{Rule}
 pub use Rattle.records.specs.declared.replies.LimitKeyName.{LimitKeyName}

@@ -21,7 +21,7 @@ pub mod TableRules
 pub mod HostCalls
 pub mod Tasks
 pub mod Plans
-pub mod Work
+pub mod Operations
 pub mod Rules
 pub mod Accept
 pub mod Step

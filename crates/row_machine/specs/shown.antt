@@ -1,4 +1,4 @@
 pub mod Statuses
-pub mod Links
+pub mod Urls
 pub mod Notices
 pub mod Views

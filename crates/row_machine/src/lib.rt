@@ -6,7 +6,7 @@
 mod changes;
 mod events;
 mod laws;
-mod work;
+mod task;
 
 pub use changes::RowChange;
 pub use events::{Answer, Event, Fetched};
@@ -16,4 +16,4 @@ pub use laws::{
     an_ended_operation_stays, each_operation_ends_once, examples, examples_of_faults,
     examples_of_opening, runs_join,
 };
-pub use work::{Work, target_kind};
+pub use task::{Task, target_kind};

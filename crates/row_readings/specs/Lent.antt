@@ -1,6 +1,6 @@
 -- What contracts see of the lent rows.
 use Rattle.row_machine.specs.machine.State.{State, empty_state}
-use Rattle.row_readings.specs.declared.view.View.TheInside.{Inside}
+use Rattle.row_readings.specs.declared.state_ref.StateRef.TheInside.{Inside}
 use Rattle.row_readings.specs.Rising.{AreRising}
 
 -- the state with these rows, statuses, operations and shares, which was told to close or not

@@ -15,15 +15,16 @@ use Rattle.records.specs.declared.rows.Volume.{Volume}
 use Rattle.row_machine.specs.facts.Whole.{Rise}
 use Rattle.row_machine.specs.machine.Rows.{default_name, same_names, texts_before, project_names, profile_names}
 use Rattle.row_machine.specs.machine.Rows.{network_names}
-use Rattle.row_machine.specs.machine.Rows.{pool_names, volume_names, instance_names, snapshot_names, standing_names}
-use Rattle.row_machine.specs.machine.State.{State, Standing}
+use Rattle.row_machine.specs.machine.Rows.{pool_names, volume_names, instance_names, snapshot_names, power_names}
+use Rattle.row_machine.specs.machine.State.{State, InstancePower}
 use Rattle.row_readings.specs.declared.named.Names.{Names}
 use Rattle.row_readings.specs.declared.named.Names.TheVariants as names_of
 
 -- lists of each kind of rows, and of statuses, that rise by their names
 pub record Rising
     (of_projects : List Project) (of_profiles : List Profile) (of_networks : List Network) (of_pools : List Pool)
-    (of_volumes : List Volume) (of_instances : List Instance) (of_snapshots : List Snapshot) (of_powers : List Standing)
+    (of_volumes : List Volume) (of_instances : List Instance) (of_snapshots : List Snapshot)
+    (of_powers : List InstancePower)
     : Type 0 where
   pub projects : Rise project_names of_projects
   pub profiles : Rise profile_names of_profiles
@@ -32,7 +33,7 @@ pub record Rising
   pub volumes : Rise volume_names of_volumes
   pub instances : Rise instance_names of_instances
   pub snapshots : Rise snapshot_names of_snapshots
-  pub powers : Rise standing_names of_powers
+  pub powers : Rise power_names of_powers
 
 -- the rows of each kind, and the statuses, rise by their names
 abbrev pub AreRising : State → Type 0

@@ -10,10 +10,10 @@ ghost use Rattle.row_machine.specs.machine.Usage.{loads, instance_load, volume_l
 ghost use Rattle.row_readings.specs.Loads.{AreSmall};
 
 use crate::claims::replaced_instance;
-use crate::view::View;
+use crate::state_ref::StateRef;
 use operations::Operation;
 use records::{Instance, Row, Volume};
-use row_machine::Work;
+use row_machine::Task;
 use size_values::{Amounts, Boxed, NoMemory, Text};
 use std::alloc::Global;
 use std::marker::Model;
@@ -50,7 +50,7 @@ impl Load {
 #[tactic(auto, unfolding(row_machine::specs::machine::Claims::amounts_of_instance))]
 pub fn amounts_of_instance(
     alloc: Global,
-    view: &View<'_>,
+    view: &StateRef<'_>,
     row: &Instance,
 ) -> Result<Amounts, NoMemory>
     ensures { IfOk result (λ a. a ≡ amounts_of_instance view.now row.now) }
@@ -62,7 +62,7 @@ pub fn amounts_of_instance(
 }
 
 /// What a row counts for. Only instances and volumes do.
-fn amounts_of(alloc: Global, view: &View<'_>, row: &Row) -> Result<Amounts, NoMemory>
+fn amounts_of(alloc: Global, view: &StateRef<'_>, row: &Row) -> Result<Amounts, NoMemory>
     ensures { IfOk result (λ a. a ≡ amounts_of view.now row.now) }
 {
     match row {
@@ -92,7 +92,7 @@ pub fn project_of_row(row: &Row) -> &str
 /// What a claimed row adds to the usage of its project, above what the instance that it replaces counts for there.
 fn share_over(
     alloc: Global,
-    view: &View<'_>,
+    view: &StateRef<'_>,
     new: &Row,
     old: Option<&Instance>,
 ) -> Result<Amounts, NoMemory>
@@ -111,7 +111,7 @@ fn share_over(
 
 /// What the claimed row of an operation adds to the usage of that row's project, by the rows as they stand.
 #[tactic(auto, unfolding(row_machine::specs::machine::Claims::share_of))]
-pub fn share_of(alloc: Global, view: &View<'_>, work: &Work) -> Result<Amounts, NoMemory>
+pub fn share_of(alloc: Global, view: &StateRef<'_>, work: &Task) -> Result<Amounts, NoMemory>
     ensures { IfOk result (λ a. a ≡ share_of view.now work.now) }
 {
     match &work.claim {
@@ -121,7 +121,7 @@ pub fn share_of(alloc: Global, view: &View<'_>, work: &Work) -> Result<Amounts, 
 }
 
 /// All that counts: instances, volumes, and the shares of live operations.
-pub fn loads(alloc: Global, view: &View<'_>) -> Result<Vec<Load>, NoMemory>
+pub fn loads(alloc: Global, view: &StateRef<'_>) -> Result<Vec<Load>, NoMemory>
     ensures loads { IfOk result (λ all. all.items ≡ loads view.now) }
     ensures small { IfOk result (λ all. AreSmall all.items) }
 {
@@ -134,7 +134,7 @@ pub fn loads(alloc: Global, view: &View<'_>) -> Result<Vec<Load>, NoMemory>
 
 fn add_instances(
     alloc: Global,
-    view: &View<'_>,
+    view: &StateRef<'_>,
     rows: &[Boxed<Instance>],
     all: &mut Vec<Load>,
 ) -> Result<(), NoMemory>
@@ -163,8 +163,8 @@ fn add_volumes(alloc: Global, rows: &[Boxed<Volume>], all: &mut Vec<Load>) -> Re
 
 fn add_claims(
     alloc: Global,
-    view: &View<'_>,
-    live: &[Operation<Work>],
+    view: &StateRef<'_>,
+    live: &[Operation<Task>],
     all: &mut Vec<Load>,
 ) -> Result<(), NoMemory>
     ensures { OnOk result (all.new.items ≡ all.old.items ++ filter_map (λ o. claim_load view.now o.work) live.now) }
@@ -178,8 +178,8 @@ fn add_claims(
 /// An operation counts for the project of its claimed row, with its share.
 fn add_claim(
     alloc: Global,
-    view: &View<'_>,
-    work: &Work,
+    view: &StateRef<'_>,
+    work: &Task,
     all: &mut Vec<Load>,
 ) -> Result<(), NoMemory>
     ensures { OnOk result (all.new.items ≡ all.old.items ++ option_to_list (claim_load view.now work.now)) }

@@ -4,7 +4,7 @@ ghost use Rattle.std.specs.Option.{option_map};
 ghost use Rattle.row_machine.specs.machine.Plans.{row_of};
 ghost use Rattle.row_readings.specs.AnyRows.{row_in};
 
-use crate::view::View;
+use crate::state_ref::StateRef;
 use records::{Instance, Network, Pool, Profile, Project, Snapshot, Target, Volume};
 use size_values::ObjectKind;
 
@@ -21,7 +21,7 @@ pub enum AnyRow<'x> {
 }
 
 /// The row that the object of a path is, in its home.
-pub fn row_of<'x>(view: &View<'x>, project: &str, of: &Target) -> Option<AnyRow<'x>>
+pub fn row_of<'x>(view: &StateRef<'x>, project: &str, of: &Target) -> Option<AnyRow<'x>>
     ensures { option_map row_in result ≡ row_of view.now project.now of.now }
 {
     let home = view.home_of(project, of.kind);

@@ -4,12 +4,12 @@ ghost use Rattle.std.specs.Option.{option_copied};
 ghost use Rattle.row_machine.specs.machine.Claims.{claimed_instance, claimed_volume, claimed_snapshot};
 ghost use Rattle.row_machine.specs.machine.Claims.{replaced_instance};
 
-use crate::view::View;
+use crate::state_ref::StateRef;
 use records::{Instance, Row, Snapshot, Volume};
-use row_machine::Work;
+use row_machine::Task;
 
 /// The instance that a live operation would put.
-pub fn claimed_instance(work: &Work) -> Option<&Instance>
+pub fn claimed_instance(work: &Task) -> Option<&Instance>
     ensures { option_copied result ≡ claimed_instance work.now }
 {
     match &work.claim {
@@ -19,7 +19,7 @@ pub fn claimed_instance(work: &Work) -> Option<&Instance>
 }
 
 /// The volume that a live operation would put.
-pub fn claimed_volume(work: &Work) -> Option<&Volume>
+pub fn claimed_volume(work: &Task) -> Option<&Volume>
     ensures { option_copied result ≡ claimed_volume work.now }
 {
     match &work.claim {
@@ -29,7 +29,7 @@ pub fn claimed_volume(work: &Work) -> Option<&Volume>
 }
 
 /// The snapshot that a live operation would put.
-pub fn claimed_snapshot(work: &Work) -> Option<&Snapshot>
+pub fn claimed_snapshot(work: &Task) -> Option<&Snapshot>
     ensures { option_copied result ≡ claimed_snapshot work.now }
 {
     match &work.claim {
@@ -39,7 +39,7 @@ pub fn claimed_snapshot(work: &Work) -> Option<&Snapshot>
 }
 
 /// The instance that the claimed row replaces, as it now stands.
-pub fn replaced_instance<'x>(view: &View<'x>, work: &Work) -> Option<&'x Instance>
+pub fn replaced_instance<'x>(view: &StateRef<'x>, work: &Task) -> Option<&'x Instance>
     ensures { option_copied result ≡ replaced_instance view.now work.now }
 {
     match &work.replaces {

@@ -4,7 +4,7 @@ ghost use Rattle.size_values.specs.declared.kinds.ObjectKind.TheVariants as kind
 ghost use Rattle.restrictions.specs.Words.{is_true};
 ghost use Rattle.row_machine.specs.machine.Homes.{is_on, has_feature, home_by, home_of};
 
-use crate::view::View;
+use crate::state_ref::StateRef;
 use config_lists::Config;
 use size_values::{ObjectKind, read_boolean};
 
@@ -29,7 +29,7 @@ pub fn is_on(config: &Config, key: &str) -> bool
     }
 }
 
-impl View<'_> {
+impl StateRef<'_> {
     fn has_feature(&self, name: &str, key: &str) -> bool
         ensures { result ≡ has_feature self.now.projects name.now key.now }
     {

@@ -12,7 +12,7 @@ ghost use Rattle.row_readings.specs.Counted.{instance_part};
 ghost use Rattle.row_readings.specs.Layered.{amounts_over};
 
 use crate::layers::lay_again;
-use crate::view::View;
+use crate::state_ref::StateRef;
 use config_lists::{Config, Devices};
 use expansion::Expanded;
 use records::Instance;
@@ -22,7 +22,7 @@ use std::alloc::Global;
 /// The amounts with those of the instances of the project.
 pub(crate) fn add_instances(
     alloc: Global,
-    view: &View<'_>,
+    view: &StateRef<'_>,
     rows: &[Boxed<Instance>],
     project: &str,
     used: Amounts,
@@ -41,7 +41,7 @@ pub(crate) fn add_instances(
 /// The same. What the profiles of one instance lay is kept for the next one, which mostly names the same.
 fn add_expanded(
     alloc: Global,
-    view: &View<'_>,
+    view: &StateRef<'_>,
     rows: &[Boxed<Instance>],
     project: &str,
     used: Amounts,

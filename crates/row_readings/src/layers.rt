@@ -2,7 +2,7 @@
 ghost use Rattle.std.specs.Prelude.{◌≡◌, OnOk, IsTrue};
 ghost use Rattle.row_readings.specs.Layered.{profiles_of};
 
-use crate::view::View;
+use crate::state_ref::StateRef;
 use expansion::Expanded;
 use size_values::{NoMemory, Text};
 use std::alloc::Global;
@@ -10,7 +10,7 @@ use std::alloc::Global;
 /// Lays the profiles of these names, in their order, in place of those of the names `last`.
 pub(crate) fn lay_again(
     alloc: Global,
-    view: &View<'_>,
+    view: &StateRef<'_>,
     home: &str,
     last: &[Text],
     names: &[Text],

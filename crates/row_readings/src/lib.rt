@@ -13,8 +13,8 @@ mod named;
 mod places;
 mod readings;
 mod snapshots;
+mod state_ref;
 mod usage;
-mod view;
 
 pub use amounts::{Load, amounts_of_instance, loads, project_of_row, share_of, usage_in};
 pub use any_row::{AnyRow, row_of};
@@ -24,5 +24,5 @@ pub use lookups::{kept_at, power_of};
 pub use named::{Named, Names};
 pub use places::{place_named, rises, rows_at_home, rows_of};
 pub use snapshots::next_snapshot;
+pub use state_ref::{InstancePower, StateRef};
 pub use usage::usage_of;
-pub use view::{InstancePower, View};

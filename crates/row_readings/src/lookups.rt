@@ -1,20 +1,20 @@
 //! Rows and statuses by their names, found by binary search, and operations by their numbers.
 ghost use Rattle.std.specs.Prelude.{◌≡◌, find};
 ghost use Rattle.std.specs.Option.{option_copied};
-ghost use Rattle.operations.specs.Kept.{has_number, kept_at};
+ghost use Rattle.operations.specs.OperationTable.{has_number, kept_at};
 ghost use Rattle.row_machine.specs.machine.Rows.{project_named, profile_named, network_named, pool_named, volume_named};
 ghost use Rattle.row_machine.specs.machine.Rows.{instance_named, snapshot_named};
 ghost use Rattle.row_machine.specs.machine.StandingRules.{power_of};
 
 use crate::named::Names;
 use crate::places::{boxed_row_named, row_named};
-use crate::view::View;
+use crate::state_ref::StateRef;
 use operations::Operation;
 use records::{Instance, Network, Pool, Profile, Project, Snapshot, Volume};
-use row_machine::Work;
+use row_machine::Task;
 use size_values::Power;
 
-impl<'x> View<'x> {
+impl<'x> StateRef<'x> {
     /// The project of a name.
     pub fn project_named(&self, name: &str) -> Option<&'x Project>
         ensures { option_copied result ≡ project_named self.now.projects name.now }
@@ -66,26 +66,26 @@ impl<'x> View<'x> {
 }
 
 /// The status of an instance.
-pub fn power_of(view: &View<'_>, project: &str, name: &str) -> Option<Power>
+pub fn power_of(view: &StateRef<'_>, project: &str, name: &str) -> Option<Power>
     ensures { result ≡ power_of view.now project.now name.now }
 {
     match row_named(view.powers, Names::Two(project, name)) {
-        Some(standing) => Some(standing.power),
+        Some(found) => Some(found.power),
         None => None,
     }
 }
 
 fn operation_numbered<'x>(
-    operations: &'x [Operation<Work>],
+    operations: &'x [Operation<Task>],
     number: u64,
-) -> Option<&'x Operation<Work>>
+) -> Option<&'x Operation<Task>>
     ensures { option_copied result ≡ find (has_number number) operations.now }
 {
     operations.iter().find(|o| o.number == number)
 }
 
 /// The operation of a number, live or ended.
-pub fn kept_at<'x>(view: &View<'x>, number: u64) -> Option<&'x Operation<Work>>
+pub fn kept_at<'x>(view: &StateRef<'x>, number: u64) -> Option<&'x Operation<Task>>
     ensures { option_copied result ≡ kept_at view.now.operations number }
 {
     match operation_numbered(view.live, number) {

@@ -3,10 +3,10 @@ ghost use Rattle.std.specs.Prelude.{◌≡◌, ℕ, List};
 ghost use Rattle.std.specs.Cmp.Lexicographic.{slice_cmp};
 ghost use Rattle.std.specs.Ordering.{nat_cmp};
 ghost use Rattle.row_machine.specs.machine.Rows.{project_names, profile_names, network_names, pool_names, volume_names};
-ghost use Rattle.row_machine.specs.machine.Rows.{instance_names, snapshot_names, standing_names};
+ghost use Rattle.row_machine.specs.machine.Rows.{instance_names, snapshot_names, power_names};
 ghost use Rattle.row_readings.specs.Rising.{begins_with, comes_before, names_in};
 
-use crate::view::InstancePower;
+use crate::state_ref::InstancePower;
 use records::{Instance, Network, Pool, Profile, Project, Snapshot, Volume};
 use size_values::Boxed;
 use std::cmp::Ordering;
@@ -141,7 +141,7 @@ impl Named for Snapshot {
 }
 
 impl Named for InstancePower {
-    ghost names = { standing_names };
+    ghost names = { power_names };
 
     fn lent_names(&self) -> Names<'_> {
         Names::Two(self.project.view(), self.name.view())

@@ -6,13 +6,13 @@ ghost use Rattle.row_machine.specs.machine.Expansions.{layer_of, expanded_of};
 ghost use Rattle.row_machine.specs.machine.Usage.{usage_of};
 
 use crate::amounts::{loads, usage_in};
-use crate::view::View;
+use crate::state_ref::StateRef;
 use expansion::Expanded;
 use records::{Instance, Profile};
 use size_values::{Amounts, NoMemory, Text};
 use std::alloc::Global;
 
-impl View<'_> {
+impl StateRef<'_> {
     /// What an instance has: the settings and devices of its profiles in their order, and then its own.
     pub fn expansion(&self, alloc: Global, row: &Instance) -> Result<Expanded, NoMemory>
         ensures { IfOk result (λ e. e ≡ expanded_of self.now.projects self.now.profiles row.now) }

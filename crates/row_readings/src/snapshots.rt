@@ -5,7 +5,7 @@ ghost use Rattle.config_lists.specs.Settings.{setting};
 ghost use Rattle.instance_states.specs.Numbers.{next_name, seen, unseen};
 ghost use Rattle.row_machine.specs.machine.Asked.{next_snapshot};
 
-use crate::view::View;
+use crate::state_ref::StateRef;
 use config_lists::Config;
 use instance_states::SnapshotNumbers;
 use records::{Instance, Snapshot};
@@ -52,7 +52,7 @@ fn next_of(
 }
 
 /// The name that a new snapshot of an instance gets where it has none.
-pub fn next_snapshot(alloc: Global, view: &View<'_>, row: &Instance) -> Result<Text, NoMemory>
+pub fn next_snapshot(alloc: Global, view: &StateRef<'_>, row: &Instance) -> Result<Text, NoMemory>
     ensures { IfOk result (λ t. t ≡ next_snapshot view.now row.now) }
 {
     let expanded = view.expansion(alloc, row)?;

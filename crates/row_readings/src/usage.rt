@@ -8,16 +8,16 @@ ghost use Rattle.row_readings.specs.Counted.{volume_part, claim_part};
 use crate::amounts::{project_of_row, share_of};
 use crate::instances::add_instances;
 use crate::places::rows_of;
-use crate::view::View;
+use crate::state_ref::StateRef;
 use operations::Operation;
 use records::Volume;
-use row_machine::Work;
+use row_machine::Task;
 use size_values::{Amounts, Boxed, NoMemory};
 use std::alloc::Global;
 
 /// What a project uses of its limits, with what live operations claim: the sum over its own rows and claims. No list of
 /// them is made. The only error is that there is no memory.
-pub fn usage_of(alloc: Global, view: &View<'_>, project: &str) -> Result<Amounts, NoMemory>
+pub fn usage_of(alloc: Global, view: &StateRef<'_>, project: &str) -> Result<Amounts, NoMemory>
     ensures usage { IfOk result (λ a. a ≡ usage_of view.now project.now) }
     ensures few { IfOk result (λ a. (k : Part) → part k a ≤ 2 ^ 127 + 2 ^ 126) }
 {
@@ -54,8 +54,8 @@ fn volume_counts(row: &Volume, project: &str) -> Amounts
 /// The amounts with the shares of the live operations whose claimed row is of the project.
 fn add_claims(
     alloc: Global,
-    view: &View<'_>,
-    live: &[Operation<Work>],
+    view: &StateRef<'_>,
+    live: &[Operation<Task>],
     project: &str,
     used: Amounts,
 ) -> Result<Amounts, NoMemory>
@@ -75,8 +75,8 @@ fn add_claims(
 /// What an operation adds to what a project uses: nothing if it claims no row, or a row of another project.
 fn claim_counts(
     alloc: Global,
-    view: &View<'_>,
-    work: &Work,
+    view: &StateRef<'_>,
+    work: &Task,
     project: &str,
 ) -> Result<Amounts, NoMemory>
     ensures { IfOk result (λ a. (k : Part) → part k a ≡ claim_part view.now project.now k work.now) }

@@ -10,7 +10,7 @@ use Rattle.records.specs.declared.rows.Instance.{Instance}
 use Rattle.records.specs.declared.rows.Profile.{Profile}
 use Rattle.records.specs.declared.rows.Volume.{Volume}
 use Rattle.records.specs.declared.rows.Row.TheVariants as row
-use Rattle.row_machine.specs.machine.Holders.{profile_user, user_in, user_link}
+use Rattle.row_machine.specs.machine.Holders.{profile_user, user_in, user_url}
 use Rattle.row_machine.specs.machine.Kinds.{is_of_kind}
 use Rattle.row_machine.specs.machine.Rows.{default_name, instance_names}
 use Rattle.row_machine.specs.machine.State.{State}
@@ -18,13 +18,13 @@ use Rattle.object_users.specs.AtHome.{project_may_use}
 use Rattle.row_readings.specs.Rising.{rows_at_home}
 use Rattle.row_readings.proofs.AtHome.{first_of-at_home}
 use Rattle.object_users.proofs.AtHome.{profile-unnamed, profile-idle, instance-idle}
-use Rattle.rules_conflicts.specs.Users.{claim_link, instance_link, naming_link, profile_link, volume_link}
+use Rattle.rules_conflicts.specs.Users.{claim_url, instance_url, naming_url, profile_url, volume_url}
 
 -- the first instance that names a profile is one of the rows at its home
 pub naming-at_home : (s : State) (home profile : List ℕ)
-    → first_of (naming_link s home profile) (rows_at_home instance_names home s.instances) ≡ profile_user s home profile
-naming-at_home s home profile = first_of-at_home instance_names home s.instances (naming_link s home profile)
-    (λ i own other. ap (λ b. user_link b (row.Instance i)) (profile-unnamed s home own profile i other))
+    → first_of (naming_url s home profile) (rows_at_home instance_names home s.instances) ≡ profile_user s home profile
+naming-at_home s home profile = first_of-at_home instance_names home s.instances (naming_url s home profile)
+    (λ i own other. ap (λ b. user_url b (row.Instance i)) (profile-unnamed s home own profile i other))
 
 -- a rule that no element which passes a test breaks
 none-passes : {X R : Type 0} (rule : X → Option R) (p : X → Bool) (xs : List X)
@@ -64,25 +64,25 @@ module _ (s : State) (home : List ℕ) (of : Target) (project : List ℕ) (h : M
   elsewhere : (name : List ℕ) → bytes_eq name project ≡ true → bytes_eq name home ≡ false
   elsewhere name is = ap (λ n. bytes_eq n home) (same name project is) ∙ h.other
 
-  no-profile : first_of (profile_link s home of) (filter (λ r. bytes_eq r.project project) s.profiles) ≡ None
-  no-profile = none-passes (profile_link s home of) (λ (r : Profile). bytes_eq r.project project) s.profiles
-      (λ r is. ap (λ b. user_link b (row.Profile r)) (profile-idle s home h.own of h.no-pool r (elsewhere r.project is)))
+  no-profile : first_of (profile_url s home of) (filter (λ r. bytes_eq r.project project) s.profiles) ≡ None
+  no-profile = none-passes (profile_url s home of) (λ (r : Profile). bytes_eq r.project project) s.profiles
+      (λ r is. ap (λ b. user_url b (row.Profile r)) (profile-idle s home h.own of h.no-pool r (elsewhere r.project is)))
 
-  no-instance : first_of (instance_link s home of) (filter (λ r. bytes_eq r.project project) s.instances) ≡ None
-  no-instance = none-passes (instance_link s home of) (λ (r : Instance). bytes_eq r.project project) s.instances
-      (λ r is. ap (λ b. user_link b (row.Instance r)) (instance-idle s home h.own of h.no-pool r (elsewhere r.project is)))
+  no-instance : first_of (instance_url s home of) (filter (λ r. bytes_eq r.project project) s.instances) ≡ None
+  no-instance = none-passes (instance_url s home of) (λ (r : Instance). bytes_eq r.project project) s.instances
+      (λ r is. ap (λ b. user_url b (row.Instance r)) (instance-idle s home h.own of h.no-pool r (elsewhere r.project is)))
 
-  no-volume : first_of (volume_link of) (filter (λ r. bytes_eq r.project project) s.volumes) ≡ None
-  no-volume = none-passes (volume_link of) (λ (r : Volume). bytes_eq r.project project) s.volumes
-      (λ r is. ap (λ b. user_link (b && bytes_eq r.pool of.name) (row.Volume r)) h.no-pool)
+  no-volume : first_of (volume_url of) (filter (λ r. bytes_eq r.project project) s.volumes) ≡ None
+  no-volume = none-passes (volume_url of) (λ (r : Volume). bytes_eq r.project project) s.volumes
+      (λ r is. ap (λ b. user_url (b && bytes_eq r.pool of.name) (row.Volume r)) h.no-pool)
 
 -- a project that may not use the object has no users but claims
 pub claims-alone : (s : State) (home : List ℕ) (of : Target) (project : List ℕ) → project_may_use home of project ≡ false
-    → first_of (claim_link s home of project) s.operations.live ≡ user_in s home of project
+    → first_of (claim_url s home of project) s.operations.live ≡ user_in s home of project
 claims-alone s home of project e =
     let h = may-not home of project e in
-    sym (last-answers (first_of (profile_link s home of) (filter (λ r. bytes_eq r.project project) s.profiles))
-    (first_of (instance_link s home of) (filter (λ r. bytes_eq r.project project) s.instances))
-    (first_of (volume_link of) (filter (λ r. bytes_eq r.project project) s.volumes))
-    (first_of (claim_link s home of project) s.operations.live)
+    sym (last-answers (first_of (profile_url s home of) (filter (λ r. bytes_eq r.project project) s.profiles))
+    (first_of (instance_url s home of) (filter (λ r. bytes_eq r.project project) s.instances))
+    (first_of (volume_url of) (filter (λ r. bytes_eq r.project project) s.volumes))
+    (first_of (claim_url s home of project) s.operations.live)
     (no-profile s home of project h) (no-instance s home of project h) (no-volume s home of project h))

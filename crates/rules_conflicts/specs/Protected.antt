@@ -12,7 +12,7 @@ use Rattle.row_machine.specs.machine.Rows.{default_name}
 use Rattle.row_machine.specs.machine.Homes.{is_on}
 use Rattle.row_machine.specs.machine.Expansions.{expanded_of}
 use Rattle.row_machine.specs.machine.Kinds.{kind_text}
-use Rattle.row_machine.specs.machine.Refusals.{nothing_told}
+use Rattle.row_machine.specs.machine.Refusals.{no_details}
 use Rattle.row_machine.specs.machine.Asked.{renames_or_deletes}
 use Rattle.row_machine.specs.machine.StandingRules.{asks_for_features, is_deletion, protects_itself}
 
@@ -29,9 +29,9 @@ project_protected state asked name = bytes_eq name default_name && (renames_or_d
 abbrev pub instance_protected : State → Command → List ℕ → Bool
 instance_protected state command name = is_deletion command.what && protects_itself state command.project name
 
--- B4 of an object, with the link of its first user
+-- B4 of an object, with the URL of its first user
 abbrev pub on_user : Target → List ℕ → Refusal
-on_user of link = record {
+on_user of url = record {
   rule = rule.B4;
-  kept = record nothing_told { key = link; kind = kind_text of.kind; name = of.name };
+  details = record no_details { key = url; kind = kind_text of.kind; name = of.name };
 }

@@ -8,8 +8,8 @@ ghost use Rattle.row_machine.specs.machine.StandingRules.{named_instance_busy, i
 use crate::asked::instance_changed;
 use operations::Operation;
 use records::{Command, Refusal, Rule, Target};
-use row_machine::Work;
-use row_readings::View;
+use row_machine::Task;
+use row_readings::StateRef;
 use rules_refusals::on_name;
 use size_values::{ObjectKind, Or};
 use std::alloc::Global;
@@ -39,7 +39,7 @@ fn is_source(instance: &str, source: &Option<Target>) -> bool
     }
 }
 
-fn keeps_busy(project: &str, instance: &str, work: &Work) -> bool
+fn keeps_busy(project: &str, instance: &str, work: &Task) -> bool
     ensures { result ≡ keeps_busy project.now instance.now work.now }
 {
     work.project.view() == project
@@ -49,10 +49,10 @@ fn keeps_busy(project: &str, instance: &str, work: &Work) -> bool
 /// The live operation that keeps an instance busy.
 #[tactic(auto, unfolding(row_machine::specs::machine::Holders::busy_with))]
 fn busy_with<'x>(
-    live: &'x [Operation<Work>],
+    live: &'x [Operation<Task>],
     project: &str,
     instance: &str,
-) -> Option<&'x Operation<Work>>
+) -> Option<&'x Operation<Task>>
     ensures { option_copied result ≡ find (λ o. keeps_busy project.now instance.now o.work) live.now }
 {
     live.iter().find(|o| keeps_busy(project, instance, &o.work))
@@ -62,7 +62,7 @@ fn busy_with<'x>(
 #[tactic(auto, unfolding(row_machine::specs::machine::Holders::busy_with))]
 fn named_instance_busy(
     alloc: Global,
-    view: &View<'_>,
+    view: &StateRef<'_>,
     project: &str,
     name: &str,
 ) -> Result<(), Or<Refusal>>
@@ -72,7 +72,7 @@ fn named_instance_busy(
         return Ok(());
     };
     let mut refusal = on_name(alloc, Rule::B1, name)?;
-    refusal.kept.number = operation.number;
+    refusal.details.number = operation.number;
     Err(Or::Why(refusal))
 }
 
@@ -80,7 +80,7 @@ fn named_instance_busy(
 #[tactic(auto, unfolding(row_machine::specs::machine::StandingRules::instance_busy))]
 pub(crate) fn instance_busy(
     alloc: Global,
-    view: &View<'_>,
+    view: &StateRef<'_>,
     command: &Command,
 ) -> Result<(), Or<Refusal>>
     ensures { Says result (instance_busy view.now command.now) }

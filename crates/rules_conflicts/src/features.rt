@@ -8,7 +8,7 @@ ghost use Rattle.row_machine.specs.machine.StandingRules.{feature_keys};
 
 use config_lists::Config;
 use records::{Body, Project, Target, What};
-use row_readings::{View, is_on};
+use row_readings::{StateRef, is_on};
 use rows_made::{new_config, patched_config};
 use size_values::{NoMemory, ObjectKind, read_boolean};
 use std::alloc::Global;
@@ -57,7 +57,7 @@ fn patch_changes(row: &Project, body: &Body) -> Result<bool, NoMemory>
 }
 
 /// Whether a PUT changes the features of a project.
-fn put_asks(alloc: Global, view: &View<'_>, of: &Target, body: &Body) -> Result<bool, NoMemory>
+fn put_asks(alloc: Global, view: &StateRef<'_>, of: &Target, body: &Body) -> Result<bool, NoMemory>
     ensures { IfOk result (λ b. b ≡ asks_for_features view.now (what_of.Put of.now body.now)) }
 {
     match of.kind {
@@ -76,7 +76,7 @@ fn put_asks(alloc: Global, view: &View<'_>, of: &Target, body: &Body) -> Result<
 }
 
 /// Whether a PATCH does.
-fn patch_asks(view: &View<'_>, of: &Target, body: &Body) -> Result<bool, NoMemory>
+fn patch_asks(view: &StateRef<'_>, of: &Target, body: &Body) -> Result<bool, NoMemory>
     ensures { IfOk result (λ b. b ≡ asks_for_features view.now (what_of.Patch of.now body.now)) }
 {
     match of.kind {
@@ -97,7 +97,7 @@ fn patch_asks(view: &View<'_>, of: &Target, body: &Body) -> Result<bool, NoMemor
 /// Whether a command changes the features of a project.
 pub(crate) fn asks_for_features(
     alloc: Global,
-    view: &View<'_>,
+    view: &StateRef<'_>,
     what: &What,
 ) -> Result<bool, NoMemory>
     ensures { IfOk result (λ b. b ≡ asks_for_features view.now what.now) }

@@ -10,13 +10,13 @@ use crate::asked::object_changed;
 use object_users::names_profile;
 use operations::Operation;
 use records::{Command, Instance, Refusal, Rule, Target};
-use row_machine::Work;
-use row_readings::{View, claimed_instance, replaced_instance};
+use row_machine::Task;
+use row_readings::{StateRef, claimed_instance, replaced_instance};
 use rules_refusals::on_name;
 use size_values::{ObjectKind, Or};
 use std::alloc::Global;
 
-fn may_name(view: &View<'_>, home: &str, profile: &str, row: Option<&Instance>) -> bool
+fn may_name(view: &StateRef<'_>, home: &str, profile: &str, row: Option<&Instance>) -> bool
     ensures { result
         ≡ list_any (names_profile view.now home.now profile.now) (option_to_list (option_copied row.entry)) }
 {
@@ -27,7 +27,7 @@ fn may_name(view: &View<'_>, home: &str, profile: &str, row: Option<&Instance>) 
 }
 
 /// Whether a claim names the profile: the instance that it would put, or the one that this one replaces.
-fn claim_names(view: &View<'_>, home: &str, profile: &str, work: &Work) -> bool
+fn claim_names(view: &StateRef<'_>, home: &str, profile: &str, work: &Task) -> bool
     ensures { result ≡ list_any (names_profile view.now home.now profile.now) (claim_rows view.now work.now) }
 {
     may_name(view, home, profile, claimed_instance(work))
@@ -36,7 +36,7 @@ fn claim_names(view: &View<'_>, home: &str, profile: &str, work: &Work) -> bool
 
 /// The lowest-numbered live operation whose claim names the profile.
 #[tactic(auto, unfolding(row_machine::specs::machine::Holders::holder_of))]
-fn holder_of<'x>(view: &View<'x>, home: &str, profile: &str) -> Option<&'x Operation<Work>>
+fn holder_of<'x>(view: &StateRef<'x>, home: &str, profile: &str) -> Option<&'x Operation<Task>>
     ensures { option_copied result ≡ holder_of view.now home.now profile.now }
 {
     view.live
@@ -46,7 +46,7 @@ fn holder_of<'x>(view: &View<'x>, home: &str, profile: &str) -> Option<&'x Opera
 
 fn held_profile(
     alloc: Global,
-    view: &View<'_>,
+    view: &StateRef<'_>,
     command: &Command,
     of: &Target,
 ) -> Result<(), Or<Refusal>>
@@ -59,7 +59,7 @@ fn held_profile(
                 return Ok(());
             };
             let mut refusal = on_name(alloc, Rule::B6, of.name.view())?;
-            refusal.kept.number = operation.number;
+            refusal.details.number = operation.number;
             Err(Or::Why(refusal))
         }
         ObjectKind::Project
@@ -76,7 +76,7 @@ fn held_profile(
 #[tactic(auto, unfolding(row_machine::specs::machine::StandingRules::profile_held))]
 pub(crate) fn profile_held(
     alloc: Global,
-    view: &View<'_>,
+    view: &StateRef<'_>,
     command: &Command,
 ) -> Result<(), Or<Refusal>>
     ensures { Says result (profile_held view.now command.now) }

@@ -10,8 +10,8 @@ use crate::asked::{object_changed, renames_or_deletes};
 use crate::features::asks_for_features;
 use operations::Operation;
 use records::{Command, Instance, Network, Profile, Refusal, Rule, Target, Volume, What};
-use row_machine::Work;
-use row_readings::{View, rows_of};
+use row_machine::Task;
+use row_readings::{StateRef, rows_of};
 use rules_refusals::on_name;
 use size_values::{Boxed, NoMemory, ObjectKind, Or};
 use std::alloc::Global;
@@ -41,7 +41,7 @@ fn has_own_profile(rows: &[Boxed<Profile>], project: &str) -> bool
     rows.iter().any(|r| r.project.view() == project && r.name.view() != "default")
 }
 
-fn has_operation(live: &[Operation<Work>], project: &str) -> bool
+fn has_operation(live: &[Operation<Task>], project: &str) -> bool
     ensures { result ≡ list_any (λ o. bytes_eq o.work.project project.now) live.now }
 {
     live.iter().any(|o| o.work.project.view() == project)
@@ -49,32 +49,32 @@ fn has_operation(live: &[Operation<Work>], project: &str) -> bool
 
 // ---- of all rows, those of the project alone are gone over
 
-fn project_has_instance(view: &View<'_>, project: &str) -> bool
+fn project_has_instance(view: &StateRef<'_>, project: &str) -> bool
     ensures { result ≡ list_any (λ r. bytes_eq r.project project.now) view.now.instances }
 {
     has_instance(rows_of(view.instances, project), project)
 }
 
-fn project_has_network(view: &View<'_>, project: &str) -> bool
+fn project_has_network(view: &StateRef<'_>, project: &str) -> bool
     ensures { result ≡ list_any (λ r. bytes_eq r.project project.now) view.now.networks }
 {
     has_network(rows_of(view.networks, project), project)
 }
 
-fn project_has_volume(view: &View<'_>, project: &str) -> bool
+fn project_has_volume(view: &StateRef<'_>, project: &str) -> bool
     ensures { result ≡ list_any (λ r. bytes_eq r.project project.now) view.now.volumes }
 {
     has_volume(rows_of(view.volumes, project), project)
 }
 
-fn project_has_own_profile(view: &View<'_>, project: &str) -> bool
+fn project_has_own_profile(view: &StateRef<'_>, project: &str) -> bool
     ensures { result ≡ list_any (λ r. bytes_eq r.project project.now && not (bytes_eq r.name default_name)) view.now.profiles }
 {
     has_own_profile(rows_of(view.profiles, project), project)
 }
 
 /// Whether a project has an instance, a network, a volume, a profile other than `default`, or a live operation.
-fn is_occupied(view: &View<'_>, name: &str) -> bool
+fn is_occupied(view: &StateRef<'_>, name: &str) -> bool
     ensures { result ≡ is_occupied view.now name.now }
 {
     project_has_instance(view, name)
@@ -85,7 +85,12 @@ fn is_occupied(view: &View<'_>, name: &str) -> bool
 }
 
 /// Whether a command needs an empty project.
-fn must_be_empty(alloc: Global, view: &View<'_>, what: &What, of: &Target) -> Result<bool, NoMemory>
+fn must_be_empty(
+    alloc: Global,
+    view: &StateRef<'_>,
+    what: &What,
+    of: &Target,
+) -> Result<bool, NoMemory>
     ensures { IfOk result (λ b. b ≡ must_be_empty view.now what.now of.now) }
 {
     match of.kind {
@@ -109,7 +114,7 @@ fn must_be_empty(alloc: Global, view: &View<'_>, what: &What, of: &Target) -> Re
 #[tactic(auto, unfolding(row_machine::specs::machine::StandingRules::project_occupied))]
 pub(crate) fn project_occupied(
     alloc: Global,
-    view: &View<'_>,
+    view: &StateRef<'_>,
     command: &Command,
 ) -> Result<(), Or<Refusal>>
     ensures { Says result (project_occupied view.now command.now) }

@@ -10,7 +10,7 @@ ghost use Rattle.rules_conflicts.specs.Deeds.{deed_of};
 
 use instance_states::is_allowed;
 use records::{Command, Refusal, Rule, Target, What};
-use row_readings::{View, power_of};
+use row_readings::{StateRef, power_of};
 use rules_refusals::on_name;
 use size_values::{Deed, ObjectKind, Or, Power, Text};
 use std::alloc::Global;
@@ -127,7 +127,7 @@ fn in_wrong_state(alloc: Global, asked: Asked<'_>, power: Power) -> Result<(), O
         return Ok(());
     }
     let mut refusal = on_name(alloc, Rule::B2, asked.name)?;
-    refusal.kept.key = Text::from_text(alloc, power_text(power))?;
+    refusal.details.key = Text::from_text(alloc, power_text(power))?;
     Err(Or::Why(refusal))
 }
 
@@ -135,7 +135,7 @@ fn in_wrong_state(alloc: Global, asked: Asked<'_>, power: Power) -> Result<(), O
 #[tactic(auto, unfolding(row_machine::specs::machine::StandingRules::wrong_state))]
 pub(crate) fn wrong_state(
     alloc: Global,
-    view: &View<'_>,
+    view: &StateRef<'_>,
     command: &Command,
 ) -> Result<(), Or<Refusal>>
     ensures { Says result (wrong_state view.now command.now) }

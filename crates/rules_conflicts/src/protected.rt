@@ -7,12 +7,12 @@ ghost use Rattle.rules_conflicts.specs.Protected.{is_kept, instance_protected, p
 use crate::asked::{is_deletion, object_changed, renames_or_deletes};
 use crate::features::asks_for_features;
 use records::{Command, Instance, Refusal, Rule, Target, What};
-use row_readings::{View, is_on};
+use row_readings::{StateRef, is_on};
 use rules_refusals::on_object;
 use size_values::{NoMemory, ObjectKind, Or};
 use std::alloc::Global;
 
-fn protects(alloc: Global, view: &View<'_>, row: &Instance) -> Result<bool, NoMemory>
+fn protects(alloc: Global, view: &StateRef<'_>, row: &Instance) -> Result<bool, NoMemory>
     ensures { IfOk result (λ b. b ≡ is_kept view.now row.now) }
 {
     let expanded = view.expansion(alloc, row)?;
@@ -24,7 +24,7 @@ fn protects(alloc: Global, view: &View<'_>, row: &Instance) -> Result<bool, NoMe
 /// Whether an instance is protected by its expanded settings.
 fn protects_itself(
     alloc: Global,
-    view: &View<'_>,
+    view: &StateRef<'_>,
     project: &str,
     name: &str,
 ) -> Result<bool, NoMemory>
@@ -39,7 +39,7 @@ fn protects_itself(
 /// The project `default` is not renamed or deleted, and its features stay.
 fn project_protected(
     alloc: Global,
-    view: &View<'_>,
+    view: &StateRef<'_>,
     what: &What,
     name: &str,
 ) -> Result<bool, NoMemory>
@@ -56,7 +56,7 @@ fn project_protected(
 
 fn instance_protected(
     alloc: Global,
-    view: &View<'_>,
+    view: &StateRef<'_>,
     command: &Command,
     name: &str,
 ) -> Result<bool, NoMemory>
@@ -71,7 +71,7 @@ fn instance_protected(
 /// Whether the object of the path is protected against the command.
 fn is_protected(
     alloc: Global,
-    view: &View<'_>,
+    view: &StateRef<'_>,
     command: &Command,
     of: &Target,
 ) -> Result<bool, NoMemory>
@@ -94,7 +94,7 @@ fn is_protected(
 #[tactic(auto, unfolding(row_machine::specs::machine::StandingRules::object_protected))]
 pub(crate) fn object_protected(
     alloc: Global,
-    view: &View<'_>,
+    view: &StateRef<'_>,
     command: &Command,
 ) -> Result<(), Or<Refusal>>
     ensures { Says result (object_protected view.now command.now) }

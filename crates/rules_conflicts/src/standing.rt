@@ -9,13 +9,17 @@ use crate::powers::wrong_state;
 use crate::protected::object_protected;
 use crate::used::object_used;
 use records::{Command, Refusal};
-use row_readings::View;
+use row_readings::StateRef;
 use size_values::Or;
 use std::alloc::Global;
 
 /// The first rule on what stands in the way that a command breaks.
 #[tactic(auto, unfolding(row_machine::specs::machine::Rules::standing_broken))]
-pub fn standing_broken(alloc: Global, view: &View<'_>, command: &Command) -> Result<(), Or<Refusal>>
+pub fn standing_broken(
+    alloc: Global,
+    view: &StateRef<'_>,
+    command: &Command,
+) -> Result<(), Or<Refusal>>
     ensures { Says result (standing_broken view.now command.now) }
 {
     instance_busy(alloc, view, command)?;

@@ -7,24 +7,24 @@ ghost use Rattle.rules_conflicts.specs.Protected.{on_user};
 use crate::asked::{object_changed, renames_or_deletes};
 use crate::users::refuse_first_user;
 use records::{Command, Refusal, Rule, Target};
-use row_readings::View;
+use row_readings::StateRef;
 use rules_refusals::on_object;
 use size_values::{NoMemory, Or, Text};
 use std::alloc::Global;
 
 /// The refusal of an object that has a user.
-fn on_user(alloc: Global, of: &Target, link: Text) -> Result<Refusal, NoMemory>
-    ensures { IfOk result (λ r. r ≡ on_user of.now link) }
+fn on_user(alloc: Global, of: &Target, url: Text) -> Result<Refusal, NoMemory>
+    ensures { IfOk result (λ r. r ≡ on_user of.now url) }
 {
     let mut refusal = on_object(alloc, Rule::B4, of.kind, of.name.view())?;
-    refusal.kept.key = link;
+    refusal.details.key = url;
     Ok(refusal)
 }
 
 /// An object has a user.
 fn used_by_first(
     alloc: Global,
-    view: &View<'_>,
+    view: &StateRef<'_>,
     command: &Command,
     of: &Target,
 ) -> Result<(), Or<Refusal>>
@@ -34,7 +34,7 @@ fn used_by_first(
     match refuse_first_user(alloc, view, home, of) {
         Ok(()) => Ok(()),
         Err(Or::NoMemory) => Err(Or::NoMemory),
-        Err(Or::Why(link)) => Err(Or::Why(on_user(alloc, of, link)?)),
+        Err(Or::Why(url)) => Err(Or::Why(on_user(alloc, of, url)?)),
     }
 }
 
@@ -42,7 +42,7 @@ fn used_by_first(
 #[tactic(auto, unfolding(row_machine::specs::machine::StandingRules::object_used))]
 pub(crate) fn object_used(
     alloc: Global,
-    view: &View<'_>,
+    view: &StateRef<'_>,
     command: &Command,
 ) -> Result<(), Or<Refusal>>
     ensures { Says result (object_used view.now command.now) }

@@ -1,5 +1,5 @@
 //! The first user of a profile, a network, a storage pool or a volume. These functions answer `Ok` where there is none,
-//! and else the link of the first one as the reason why the object may not go.
+//! and else the URL of the first one as the reason why the object may not go.
 ghost use Rattle.std.specs.Prelude.{◌≡◌, IfOk, Some, None, [], false, if◌then◌else◌};
 ghost use Rattle.std.specs.Option.{option_map_or};
 ghost use Rattle.std.specs.Str.{bytes_eq};
@@ -7,21 +7,21 @@ ghost use Rattle.plain_lists.specs.Firsts.{first_of};
 ghost use Rattle.size_values.specs.Causes.{Says};
 ghost use Rattle.row_machine.specs.machine.Claims.{project_of_row};
 ghost use Rattle.row_machine.specs.machine.Holders.{first_user_of, profile_user, user_in};
-ghost use Rattle.row_machine.specs.shown.Links.{link_of};
-ghost use Rattle.rules_conflicts.specs.Users.{claim_link, instance_link, naming_link, profile_link, volume_link};
+ghost use Rattle.row_machine.specs.shown.Urls.{url_of};
+ghost use Rattle.rules_conflicts.specs.Users.{claim_url, instance_url, naming_url, profile_url, volume_url};
 
 use crate::uses::claim_uses;
-use object_links::link_of;
+use object_links::url_of;
 use object_users::{instance_uses, names_profile, profile_uses, project_may_use, volume_uses};
 use operations::Operation;
 use records::{Instance, Profile, Project, Target, Volume};
-use row_machine::Work;
-use row_readings::{View, project_of_row, rows_at_home, rows_of};
+use row_machine::Task;
+use row_readings::{StateRef, project_of_row, rows_at_home, rows_of};
 use size_values::{Boxed, NoMemory, ObjectKind, Or, Text};
 use std::alloc::Global;
 
-/// The link of a row, by its kind and names.
-fn link_in(
+/// The URL of a row, by its kind and names.
+fn url_in(
     alloc: Global,
     project: &str,
     kind: ObjectKind,
@@ -29,7 +29,7 @@ fn link_in(
     name: &str,
 ) -> Result<Text, NoMemory>
     ensures { IfOk result (λ t. t
-        ≡ link_of project.now (record { kind = kind; pool = pool.now; instance = []; name = name.now })) }
+        ≡ url_of project.now (record { kind = kind; pool = pool.now; instance = []; name = name.now })) }
 {
     let pool = Text::from_text(alloc, pool)?;
     let name = Text::from_text(alloc, name)?;
@@ -39,12 +39,12 @@ fn link_in(
         instance: Text::new(alloc),
         name,
     };
-    let link = link_of(alloc, project, &of);
+    let url = url_of(alloc, project, &of);
     drop(of);
-    link
+    url
 }
 
-/// The link of a row of these names, where it is a user.
+/// The URL of a row of these names, where it is a user.
 fn unless_user(
     alloc: Global,
     uses: bool,
@@ -54,25 +54,25 @@ fn unless_user(
     name: &str,
 ) -> Result<(), Or<Text>>
     ensures { Says result (if uses
-        then Some (link_of project.now (record { kind = kind; pool = pool.now; instance = []; name = name.now }))
+        then Some (url_of project.now (record { kind = kind; pool = pool.now; instance = []; name = name.now }))
         else None) }
 {
     if !uses {
         return Ok(());
     }
-    let link = link_in(alloc, project, kind, pool, name)?;
-    Err(Or::Why(link))
+    let url = url_in(alloc, project, kind, pool, name)?;
+    Err(Or::Why(url))
 }
 
-/// The link of a profile, where it names the object.
+/// The URL of a profile, where it names the object.
 fn unused_by_profile(
     alloc: Global,
-    view: &View<'_>,
+    view: &StateRef<'_>,
     home: &str,
     of: &Target,
     row: &Profile,
 ) -> Result<(), Or<Text>>
-    ensures { Says result (profile_link view.now home.now of.now row.now) }
+    ensures { Says result (profile_url view.now home.now of.now row.now) }
 {
     let uses = profile_uses(view, home, of, row);
     unless_user(
@@ -88,30 +88,30 @@ fn unused_by_profile(
 /// The first profile that names the object.
 fn unused_by_profiles(
     alloc: Global,
-    view: &View<'_>,
+    view: &StateRef<'_>,
     home: &str,
     of: &Target,
     rows: &[Boxed<Profile>],
 ) -> Result<(), Or<Text>>
-    ensures { Says result (first_of (profile_link view.now home.now of.now) rows.now) }
+    ensures { Says result (first_of (profile_url view.now home.now of.now) rows.now) }
 {
     for row in rows {
-        if let Err(link) = unused_by_profile(alloc, view, home, of, row) {
-            return Err(link);
+        if let Err(url) = unused_by_profile(alloc, view, home, of, row) {
+            return Err(url);
         }
     }
     Ok(())
 }
 
-/// The link of an instance, where it names the object.
+/// The URL of an instance, where it names the object.
 fn unused_by_instance(
     alloc: Global,
-    view: &View<'_>,
+    view: &StateRef<'_>,
     home: &str,
     of: &Target,
     row: &Instance,
 ) -> Result<(), Or<Text>>
-    ensures { Says result (instance_link view.now home.now of.now row.now) }
+    ensures { Says result (instance_url view.now home.now of.now row.now) }
 {
     let uses = instance_uses(alloc, view, home, of, row)?;
     unless_user(
@@ -127,24 +127,24 @@ fn unused_by_instance(
 /// The first instance that names the object.
 fn unused_by_instances(
     alloc: Global,
-    view: &View<'_>,
+    view: &StateRef<'_>,
     home: &str,
     of: &Target,
     rows: &[Boxed<Instance>],
 ) -> Result<(), Or<Text>>
-    ensures { Says result (first_of (instance_link view.now home.now of.now) rows.now) }
+    ensures { Says result (first_of (instance_url view.now home.now of.now) rows.now) }
 {
     for row in rows {
-        if let Err(link) = unused_by_instance(alloc, view, home, of, row) {
-            return Err(link);
+        if let Err(url) = unused_by_instance(alloc, view, home, of, row) {
+            return Err(url);
         }
     }
     Ok(())
 }
 
-/// The link of a volume, where it names the object.
+/// The URL of a volume, where it names the object.
 fn unused_by_volume(alloc: Global, of: &Target, row: &Volume) -> Result<(), Or<Text>>
-    ensures { Says result (volume_link of.now row.now) }
+    ensures { Says result (volume_url of.now row.now) }
 {
     let uses = volume_uses(of, row);
     unless_user(
@@ -159,17 +159,17 @@ fn unused_by_volume(alloc: Global, of: &Target, row: &Volume) -> Result<(), Or<T
 
 /// The first volume that names the object.
 fn unused_by_volumes(alloc: Global, of: &Target, rows: &[Boxed<Volume>]) -> Result<(), Or<Text>>
-    ensures { Says result (first_of (volume_link of.now) rows.now) }
+    ensures { Says result (first_of (volume_url of.now) rows.now) }
 {
     for row in rows {
-        if let Err(link) = unused_by_volume(alloc, of, row) {
-            return Err(link);
+        if let Err(url) = unused_by_volume(alloc, of, row) {
+            return Err(url);
         }
     }
     Ok(())
 }
 
-fn is_claimed_in(work: &Work, project: &str) -> bool
+fn is_claimed_in(work: &Task, project: &str) -> bool
     ensures { result ≡ option_map_or (λ new. bytes_eq (project_of_row new) project.now) work.now.claim false }
 {
     match &work.claim {
@@ -178,38 +178,38 @@ fn is_claimed_in(work: &Work, project: &str) -> bool
     }
 }
 
-/// The link of what an operation is about, where its claim belongs to the project and names the object.
+/// The URL of what an operation is about, where its claim belongs to the project and names the object.
 fn unused_by_claim(
     alloc: Global,
-    view: &View<'_>,
+    view: &StateRef<'_>,
     home: &str,
     of: &Target,
     project: &str,
-    operation: &Operation<Work>,
+    operation: &Operation<Task>,
 ) -> Result<(), Or<Text>>
-    ensures { Says result (claim_link view.now home.now of.now project.now operation.now) }
+    ensures { Says result (claim_url view.now home.now of.now project.now operation.now) }
 {
     let work = &operation.work;
     if !is_claimed_in(work, project) || !claim_uses(alloc, view, home, of, work)? {
         return Ok(());
     }
-    Err(Or::Why(link_of(alloc, work.project.view(), &work.target)?))
+    Err(Or::Why(url_of(alloc, work.project.view(), &work.target)?))
 }
 
 /// The first live operation whose claim belongs to the project and names the object.
 fn unused_by_claims(
     alloc: Global,
-    view: &View<'_>,
+    view: &StateRef<'_>,
     home: &str,
     of: &Target,
     project: &str,
-    live: &[Operation<Work>],
+    live: &[Operation<Task>],
 ) -> Result<(), Or<Text>>
-    ensures { Says result (first_of (claim_link view.now home.now of.now project.now) live.now) }
+    ensures { Says result (first_of (claim_url view.now home.now of.now project.now) live.now) }
 {
     for operation in live {
-        if let Err(link) = unused_by_claim(alloc, view, home, of, project, operation) {
-            return Err(link);
+        if let Err(url) = unused_by_claim(alloc, view, home, of, project, operation) {
+            return Err(url);
         }
     }
     Ok(())
@@ -219,7 +219,7 @@ fn unused_by_claims(
 /// the project can't have the home of the object, its rows are no users, and are not gone over.
 fn unused_in(
     alloc: Global,
-    view: &View<'_>,
+    view: &StateRef<'_>,
     home: &str,
     of: &Target,
     project: &Project,
@@ -239,7 +239,7 @@ fn unused_in(
 /// The first user within the projects, one after another.
 fn unused_within(
     alloc: Global,
-    view: &View<'_>,
+    view: &StateRef<'_>,
     home: &str,
     of: &Target,
     projects: &[Project],
@@ -247,22 +247,22 @@ fn unused_within(
     ensures { Says result (first_of (λ p. user_in view.now home.now of.now p.name) projects.now) }
 {
     for project in projects {
-        if let Err(link) = unused_in(alloc, view, home, of, project) {
-            return Err(link);
+        if let Err(url) = unused_in(alloc, view, home, of, project) {
+            return Err(url);
         }
     }
     Ok(())
 }
 
-/// The link of an instance, where it names the profile.
+/// The URL of an instance, where it names the profile.
 fn unnamed_by(
     alloc: Global,
-    view: &View<'_>,
+    view: &StateRef<'_>,
     home: &str,
     profile: &str,
     row: &Instance,
 ) -> Result<(), Or<Text>>
-    ensures { Says result (naming_link view.now home.now profile.now row.now) }
+    ensures { Says result (naming_url view.now home.now profile.now row.now) }
 {
     let uses = names_profile(view, home, profile, row);
     unless_user(
@@ -278,16 +278,16 @@ fn unnamed_by(
 /// The first instance that names the profile.
 fn unnamed_by_all(
     alloc: Global,
-    view: &View<'_>,
+    view: &StateRef<'_>,
     home: &str,
     profile: &str,
     rows: &[Boxed<Instance>],
 ) -> Result<(), Or<Text>>
-    ensures { Says result (first_of (naming_link view.now home.now profile.now) rows.now) }
+    ensures { Says result (first_of (naming_url view.now home.now profile.now) rows.now) }
 {
     for row in rows {
-        if let Err(link) = unnamed_by(alloc, view, home, profile, row) {
-            return Err(link);
+        if let Err(url) = unnamed_by(alloc, view, home, profile, row) {
+            return Err(url);
         }
     }
     Ok(())
@@ -296,7 +296,7 @@ fn unnamed_by_all(
 /// The first instance that names the profile of this home. Those of projects that can't have this home are not gone over.
 fn unnamed_at_home(
     alloc: Global,
-    view: &View<'_>,
+    view: &StateRef<'_>,
     home: &str,
     profile: &str,
 ) -> Result<(), Or<Text>>
@@ -310,7 +310,7 @@ fn unnamed_at_home(
 #[tactic(auto, unfolding(row_machine::specs::machine::Holders::first_user_of))]
 pub(crate) fn refuse_first_user(
     alloc: Global,
-    view: &View<'_>,
+    view: &StateRef<'_>,
     home: &str,
     of: &Target,
 ) -> Result<(), Or<Text>>

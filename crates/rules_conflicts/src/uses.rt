@@ -8,8 +8,8 @@ ghost use Rattle.row_machine.specs.machine.Holders.{claim_rows, claim_uses, inst
 
 use object_users::{instance_uses, volume_uses};
 use records::{Instance, Target};
-use row_machine::Work;
-use row_readings::{View, claimed_instance, claimed_volume, replaced_instance};
+use row_machine::Task;
+use row_readings::{StateRef, claimed_instance, claimed_volume, replaced_instance};
 use size_values::{NoMemory, ObjectKind};
 use std::alloc::Global;
 
@@ -51,7 +51,7 @@ fn volume_source_uses(home: &str, of: &Target, project: &str, source: &Target) -
 
 fn may_use(
     alloc: Global,
-    view: &View<'_>,
+    view: &StateRef<'_>,
     home: &str,
     of: &Target,
     row: Option<&Instance>,
@@ -68,10 +68,10 @@ fn may_use(
 /// Whether the instance that a claim would put names the object, or the one that this one replaces.
 fn claim_rows_use(
     alloc: Global,
-    view: &View<'_>,
+    view: &StateRef<'_>,
     home: &str,
     of: &Target,
-    work: &Work,
+    work: &Task,
 ) -> Result<bool, NoMemory>
     ensures { IfOk result (λ b. b ≡ list_any (instance_uses view.now home.now of.now) (claim_rows view.now work.now)) }
 {
@@ -81,7 +81,7 @@ fn claim_rows_use(
     may_use(alloc, view, home, of, replaced_instance(view, work))
 }
 
-fn claimed_volume_uses(of: &Target, work: &Work) -> bool
+fn claimed_volume_uses(of: &Target, work: &Task) -> bool
     ensures { result ≡ option_map_or (volume_uses of.now) (claimed_volume work.now) false }
 {
     match claimed_volume(work) {
@@ -90,7 +90,7 @@ fn claimed_volume_uses(of: &Target, work: &Work) -> bool
     }
 }
 
-fn copy_source_uses(home: &str, of: &Target, work: &Work) -> bool
+fn copy_source_uses(home: &str, of: &Target, work: &Task) -> bool
     ensures { result ≡ option_map_or (source_uses home.now of.now work.now.project) work.now.source false }
 {
     match &work.source {
@@ -102,10 +102,10 @@ fn copy_source_uses(home: &str, of: &Target, work: &Work) -> bool
 /// A claim names what the row that it would put and the row that it replaces name, and a copy of a volume its source.
 pub(crate) fn claim_uses(
     alloc: Global,
-    view: &View<'_>,
+    view: &StateRef<'_>,
     home: &str,
     of: &Target,
-    work: &Work,
+    work: &Task,
 ) -> Result<bool, NoMemory>
     ensures { IfOk result (λ b. b ≡ claim_uses view.now home.now of.now work.now) }
 {

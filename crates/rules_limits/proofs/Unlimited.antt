@@ -18,7 +18,7 @@ use Rattle.project_limits.specs.declared.sums.SumKey.{SumKey}
 use Rattle.project_limits.specs.declared.sums.SumKey.TheVariants as sum
 use Rattle.project_limits.specs.Admission.{limit_on, parts, key_of}
 use Rattle.project_limits.specs.declared.admission.LimitKey.TheVariants.{Networks}
-use Rattle.project_limits.specs.Countable.{first_uncounted, volume_uncounted, sum_limit, sums, uncounted as sum_uncounted}
+use Rattle.project_limits.specs.Countable.{first_without_amount, volume_without_amount, sum_limit, sums, without_amount as sum_without_amount}
 use Rattle.project_limits.specs.Instance.{counted}
 use Rattle.project_limits.specs.Limits.{size_in, limits_of}
 use Rattle.records.specs.declared.rows.Project.{Project}
@@ -30,7 +30,7 @@ use Rattle.row_machine.specs.machine.Rows.{project_named}
 use Rattle.row_machine.specs.machine.State.{State}
 use Rattle.row_machine.specs.machine.Usage.{used, networks_of}
 use Rattle.row_machine.specs.machine.Expansions.{expanded_of}
-use Rattle.row_machine.specs.machine.LimitRules.{project_uncounted, claim_uncounted, instance_uncounted, volume_uncounts, limits_broken, part_exceeds, networks_exceed, limit_exceeded, object_uncounted}
+use Rattle.row_machine.specs.machine.LimitRules.{project_without_amount, claim_without_amount, instance_without_amount, volume_lacks_amount, limits_broken, part_exceeds, networks_exceed, limit_exceeded, object_without_amount}
 use Rattle.rules_refusals.proofs.Saying.{none-or}
 use Rattle.rules_limits.specs.AllProjects.{limits_sum, limits_any, is_any_limited}
 use Rattle.rules_limits.specs.Limited.{has_limits}
@@ -91,32 +91,32 @@ no-limit l e =
 -- ---- what limited sums need
 
 module _ (p : Project) (free : HasNoSum (limits_of p.config)) where
-  first_uncounted-none : (kind : Kind) (config : Settings) (devices : NamedDevices) → first_uncounted (limits_of p.config) kind config devices ≡ None
-  unfolding first_uncounted
-  first_uncounted-none kind config devices =
-      none-first_of (λ k. sum_uncounted k (sum_limit k (limits_of p.config)) (counted k kind config devices)) sums
-      (record { at = λ k m. ap (λ limit. sum_uncounted k limit (counted k kind config devices)) (free.none k) })
+  first_without_amount-none : (kind : Kind) (config : Settings) (devices : NamedDevices) → first_without_amount (limits_of p.config) kind config devices ≡ None
+  unfolding first_without_amount
+  first_without_amount-none kind config devices =
+      none-first_of (λ k. sum_without_amount k (sum_limit k (limits_of p.config)) (counted k kind config devices)) sums
+      (record { at = λ k m. ap (λ limit. sum_without_amount k limit (counted k kind config devices)) (free.none k) })
 
-  instance-none : (s : State) (i : Instance) → instance_uncounted s p i ≡ None
-  unfolding instance_uncounted
+  instance-none : (s : State) (i : Instance) → instance_without_amount s p i ≡ None
+  unfolding instance_without_amount
   instance-none s i =
-      ap (object_uncounted p i.name)
-      (first_uncounted-none i.kind (expanded_of s.projects s.profiles i).config (expanded_of s.projects s.profiles i).devices)
+      ap (object_without_amount p i.name)
+      (first_without_amount-none i.kind (expanded_of s.projects s.profiles i).config (expanded_of s.projects s.profiles i).devices)
 
-  volume-none : (v : Volume) → volume_uncounts p v ≡ None
-  unfolding volume_uncounts volume_uncounted
-  volume-none v = ap (λ limit. object_uncounted p v.name (sum_uncounted sum.Disk limit (size_in v.config (codes "size")))) (free.none sum.Disk)
+  volume-none : (v : Volume) → volume_lacks_amount p v ≡ None
+  unfolding volume_lacks_amount volume_without_amount
+  volume-none v = ap (λ limit. object_without_amount p v.name (sum_without_amount sum.Disk limit (size_in v.config (codes "size")))) (free.none sum.Disk)
 
-  claim-none : (s : State) (task : Task) → claim_uncounted s p task ≡ None
+  claim-none : (s : State) (task : Task) → claim_without_amount s p task ≡ None
   claim-none s task =
       none-or (none-first_of _ _ (record { at = λ i m. instance-none s i }))
       (none-or (none-first_of _ _ (record { at = λ v m. volume-none v })) refl)
 
-  pub unlimited-counts : (s : State) → project_uncounted s p ≡ None
+  pub unlimited-counts : (s : State) → project_without_amount s p ≡ None
   unlimited-counts s =
       none-or (none-first_of _ _ (record { at = λ i m. instance-none s i }))
       (none-or (none-first_of _ _ (record { at = λ v m. volume-none v }))
-      (none-or (none-first_of (λ (o : Operation Task). claim_uncounted s p o.work) s.operations.live (record { at = λ o m. claim-none s o.work })) refl))
+      (none-or (none-first_of (λ (o : Operation Task). claim_without_amount s p o.work) s.operations.live (record { at = λ o m. claim-none s o.work })) refl))
 
 -- ---- limits
 

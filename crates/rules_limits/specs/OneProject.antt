@@ -10,7 +10,7 @@ use Rattle.project_limits.specs.Limits.{limits_of}
 use Rattle.project_limits.specs.declared.admission.LimitKey.TheVariants.{Networks}
 use Rattle.records.specs.declared.refusals.Refusal.{Refusal}
 use Rattle.records.specs.declared.rows.Project.{Project}
-use Rattle.row_machine.specs.machine.LimitRules.{claim_uncounted, limit_exceeded}
+use Rattle.row_machine.specs.machine.LimitRules.{claim_without_amount, limit_exceeded}
 use Rattle.row_machine.specs.machine.Rows.{project_named}
 use Rattle.row_machine.specs.machine.State.{State}
 use Rattle.row_machine.specs.machine.Task.{Task}
@@ -43,8 +43,8 @@ abbrev pub of_project : {R : Type 0} → (Project → Option R) → List Project
 of_project rule projects name = option_and_then rule (project_named projects name)
 
 -- L0 for a new operation: what it would put gives no number for a sum that the project of a name limits.
-abbrev pub claim_uncounts : State → List ℕ → Task → Option Refusal
-claim_uncounts state name task = of_project (λ project. claim_uncounted state project task) state.projects name
+abbrev pub claim_lacks_amount : State → List ℕ → Task → Option Refusal
+claim_lacks_amount state name task = of_project (λ project. claim_without_amount state project task) state.projects name
 
 -- L1 to L8 for a new operation: the first limit of the project of a name that what it uses and a share exceed together.
 abbrev pub share_broken : List Project → List ℕ → Amounts → Amounts → Option Refusal

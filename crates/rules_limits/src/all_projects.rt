@@ -20,7 +20,7 @@ use crate::sums::sums_of;
 use crate::usage::{Usage, usage_before};
 use project_limits::LimitKey;
 use records::{Network, Project, Refusal};
-use row_readings::{Load, View, loads};
+use row_readings::{Load, StateRef, loads};
 use size_values::{Amounts, Or, Part, Text};
 use std::alloc::Global;
 
@@ -87,7 +87,7 @@ fn parts_exceed(
 fn loads_exceed(
     alloc: Global,
     before: &[Load],
-    after: &View<'_>,
+    after: &StateRef<'_>,
     projects: &[Limited<'_>],
 ) -> Result<(), Or<Refusal>>
     requires before { AreSmall before.now }
@@ -158,7 +158,7 @@ fn networks_exceed(
 fn limits_exceed(
     alloc: Global,
     before: &Usage,
-    after: &View<'_>,
+    after: &StateRef<'_>,
     projects: &[Limited<'_>],
 ) -> Result<(), Or<Refusal>>
     requires { projects.now ≡ after.now.projects }
@@ -173,7 +173,7 @@ fn limits_exceed(
 pub fn limits_broken(
     alloc: Global,
     before: &Usage,
-    after: &View<'_>,
+    after: &StateRef<'_>,
     projects: &[Limited<'_>],
 ) -> Result<(), Or<Refusal>>
     requires { projects.now ≡ after.now.projects }
@@ -188,7 +188,7 @@ pub fn limits_broken(
 
 /// L1 to L8 of all projects as they stand, without a change: the first limit that is exceeded, and the first project at
 /// which it is. Where no project has a limit, nothing is summed.
-pub fn standing_limits_broken(alloc: Global, view: &View<'_>) -> Result<(), Or<Refusal>>
+pub fn standing_limits_broken(alloc: Global, view: &StateRef<'_>) -> Result<(), Or<Refusal>>
     ensures { Says result (limits_broken view.now view.now) }
 {
     let projects = limited_projects(alloc, view.projects)?;

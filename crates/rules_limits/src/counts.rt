@@ -3,7 +3,8 @@ ghost use Rattle.std.specs.Prelude.{◌≡◌, option_and_then};
 ghost use Rattle.plain_lists.specs.Firsts.{first_of};
 ghost use Rattle.size_values.specs.Causes.{Says};
 ghost use Rattle.row_machine.specs.machine.Claims.{claimed_instance, claimed_volume};
-ghost use Rattle.row_machine.specs.machine.LimitRules.{sum_text, object_uncounted, claim_uncounted, project_uncounted};
+ghost use Rattle.row_machine.specs.machine.LimitRules.{sum_text, object_without_amount, claim_without_amount};
+ghost use Rattle.row_machine.specs.machine.LimitRules.{project_without_amount};
 ghost use Rattle.row_machine.specs.machine.LimitRules.{counts_broken};
 ghost use Rattle.rules_limits.specs.Within.{own_instance, own_volume, own_objects};
 
@@ -12,8 +13,8 @@ use crate::parts::limits_sum;
 use operations::Operation;
 use project_limits::{SumKey, countable, volume_countable};
 use records::{Instance, Refusal, Rule, Volume};
-use row_machine::Work;
-use row_readings::{View, claimed_instance, claimed_volume, rows_of};
+use row_machine::Task;
+use row_readings::{StateRef, claimed_instance, claimed_volume, rows_of};
 use rules_refusals::on_key_of;
 use size_values::{Boxed, Or, Text};
 use std::alloc::Global;
@@ -30,13 +31,13 @@ fn sum_text(key: SumKey) -> &'static str
 }
 
 /// An object of this name gives no number for this sum.
-fn object_uncounted(
+fn object_without_amount(
     alloc: Global,
     project: &Limited<'_>,
     name: &Text,
     key: Option<SumKey>,
 ) -> Result<(), Or<Refusal>>
-    ensures { Says result (object_uncounted project.now name.now key) }
+    ensures { Says result (object_without_amount project.now name.now key) }
 {
     let Some(key) = key else {
         return Ok(());
@@ -46,10 +47,10 @@ fn object_uncounted(
 }
 
 /// An instance of the project gives no number for a sum that the project limits.
-#[tactic(auto, unfolding(row_machine::specs::machine::LimitRules::instance_uncounted))]
-fn instance_uncounted(
+#[tactic(auto, unfolding(row_machine::specs::machine::LimitRules::instance_without_amount))]
+fn instance_without_amount(
     alloc: Global,
-    view: &View<'_>,
+    view: &StateRef<'_>,
     project: &Limited<'_>,
     row: &Instance,
 ) -> Result<(), Or<Refusal>>
@@ -62,19 +63,19 @@ fn instance_uncounted(
     let limits = project.limits();
     let key = countable(limits, row.kind, &expanded.config, &expanded.devices).err();
     drop(expanded);
-    object_uncounted(alloc, project, &row.name, key)
+    object_without_amount(alloc, project, &row.name, key)
 }
 
-fn instances_uncounted(
+fn instances_without_amount(
     alloc: Global,
-    view: &View<'_>,
+    view: &StateRef<'_>,
     project: &Limited<'_>,
     rows: &[Boxed<Instance>],
 ) -> Result<(), Or<Refusal>>
     ensures { Says result (first_of (own_instance view.now project.now) rows.now) }
 {
     for row in rows {
-        if let Err(why) = instance_uncounted(alloc, view, project, row) {
+        if let Err(why) = instance_without_amount(alloc, view, project, row) {
             return Err(why);
         }
     }
@@ -82,18 +83,22 @@ fn instances_uncounted(
 }
 
 /// A volume of the project has no size although the project limits its disk.
-#[tactic(auto, unfolding(row_machine::specs::machine::LimitRules::volume_uncounts))]
-fn volume_uncounted(alloc: Global, project: &Limited<'_>, row: &Volume) -> Result<(), Or<Refusal>>
+#[tactic(auto, unfolding(row_machine::specs::machine::LimitRules::volume_lacks_amount))]
+fn volume_without_amount(
+    alloc: Global,
+    project: &Limited<'_>,
+    row: &Volume,
+) -> Result<(), Or<Refusal>>
     ensures { Says result (own_volume project.now row.now) }
 {
     if !row.project.is(project.name()) {
         return Ok(());
     }
     let key = volume_countable(project.limits(), &row.config).err();
-    object_uncounted(alloc, project, &row.name, key)
+    object_without_amount(alloc, project, &row.name, key)
 }
 
-fn volumes_uncounted(
+fn volumes_without_amount(
     alloc: Global,
     project: &Limited<'_>,
     rows: &[Boxed<Volume>],
@@ -101,63 +106,63 @@ fn volumes_uncounted(
     ensures { Says result (first_of (own_volume project.now) rows.now) }
 {
     for row in rows {
-        if let Err(why) = volume_uncounted(alloc, project, row) {
+        if let Err(why) = volume_without_amount(alloc, project, row) {
             return Err(why);
         }
     }
     Ok(())
 }
 
-fn claimed_instance_uncounted(
+fn claimed_instance_without_amount(
     alloc: Global,
-    view: &View<'_>,
+    view: &StateRef<'_>,
     project: &Limited<'_>,
-    work: &Work,
+    work: &Task,
 ) -> Result<(), Or<Refusal>>
     ensures { Says result (option_and_then (own_instance view.now project.now) (claimed_instance work.now)) }
 {
     match claimed_instance(work) {
-        Some(row) => instance_uncounted(alloc, view, project, row),
+        Some(row) => instance_without_amount(alloc, view, project, row),
         None => Ok(()),
     }
 }
 
-fn claimed_volume_uncounted(
+fn claimed_volume_without_amount(
     alloc: Global,
     project: &Limited<'_>,
-    work: &Work,
+    work: &Task,
 ) -> Result<(), Or<Refusal>>
     ensures { Says result (option_and_then (own_volume project.now) (claimed_volume work.now)) }
 {
     match claimed_volume(work) {
-        Some(row) => volume_uncounted(alloc, project, row),
+        Some(row) => volume_without_amount(alloc, project, row),
         None => Ok(()),
     }
 }
 
 /// The row that a live operation would put is not countable.
-pub(crate) fn claim_uncounted(
+pub(crate) fn claim_without_amount(
     alloc: Global,
-    view: &View<'_>,
+    view: &StateRef<'_>,
     project: &Limited<'_>,
-    work: &Work,
+    work: &Task,
 ) -> Result<(), Or<Refusal>>
-    ensures { Says result (claim_uncounted view.now project.now work.now) }
+    ensures { Says result (claim_without_amount view.now project.now work.now) }
 {
-    claimed_instance_uncounted(alloc, view, project, work)?;
-    claimed_volume_uncounted(alloc, project, work)
+    claimed_instance_without_amount(alloc, view, project, work)?;
+    claimed_volume_without_amount(alloc, project, work)
 }
 
-fn claims_uncounted(
+fn claims_without_amount(
     alloc: Global,
-    view: &View<'_>,
+    view: &StateRef<'_>,
     project: &Limited<'_>,
-    live: &[Operation<Work>],
+    live: &[Operation<Task>],
 ) -> Result<(), Or<Refusal>>
-    ensures { Says result (first_of (λ o. claim_uncounted view.now project.now o.work) live.now) }
+    ensures { Says result (first_of (λ o. claim_without_amount view.now project.now o.work) live.now) }
 {
     for operation in live {
-        if let Err(why) = claim_uncounted(alloc, view, project, &operation.work) {
+        if let Err(why) = claim_without_amount(alloc, view, project, &operation.work) {
             return Err(why);
         }
     }
@@ -165,54 +170,54 @@ fn claims_uncounted(
 }
 
 /// The first instance of the project that is not countable. Instances of other projects are not asked.
-fn own_instances_uncounted(
+fn own_instances_without_amount(
     alloc: Global,
-    view: &View<'_>,
+    view: &StateRef<'_>,
     project: &Limited<'_>,
 ) -> Result<(), Or<Refusal>>
     ensures { Says result (first_of (own_instance view.now project.now) view.now.instances) }
 {
     let rows = rows_of(view.instances, project.name().view());
-    instances_uncounted(alloc, view, project, rows)
+    instances_without_amount(alloc, view, project, rows)
 }
 
 /// The first volume of the project that is not countable. Volumes of other projects are not asked.
-fn own_volumes_uncounted(
+fn own_volumes_without_amount(
     alloc: Global,
-    view: &View<'_>,
+    view: &StateRef<'_>,
     project: &Limited<'_>,
 ) -> Result<(), Or<Refusal>>
     ensures { Says result (first_of (own_volume project.now) view.now.volumes) }
 {
     let rows = rows_of(view.volumes, project.name().view());
-    volumes_uncounted(alloc, project, rows)
+    volumes_without_amount(alloc, project, rows)
 }
 
-fn objects_uncounted(
+fn objects_without_amount(
     alloc: Global,
-    view: &View<'_>,
+    view: &StateRef<'_>,
     project: &Limited<'_>,
 ) -> Result<(), Or<Refusal>>
     ensures { Says result (own_objects view.now project.now) }
 {
-    own_instances_uncounted(alloc, view, project)?;
-    own_volumes_uncounted(alloc, view, project)?;
-    claims_uncounted(alloc, view, project, view.live)
+    own_instances_without_amount(alloc, view, project)?;
+    own_volumes_without_amount(alloc, view, project)?;
+    claims_without_amount(alloc, view, project, view.live)
 }
 
 /// L0 of a project: the first instance, volume or claim of it that gives no number for a sum that it limits. Where it
 /// limits no sum, none is asked.
-pub fn project_uncounted(
+pub fn project_without_amount(
     alloc: Global,
-    view: &View<'_>,
+    view: &StateRef<'_>,
     project: &Limited<'_>,
 ) -> Result<(), Or<Refusal>>
-    ensures { Says result (project_uncounted view.now project.now) }
+    ensures { Says result (project_without_amount view.now project.now) }
 {
     if !limits_sum(project.limits()) {
         return Ok(());
     }
-    objects_uncounted(alloc, view, project)
+    objects_without_amount(alloc, view, project)
 }
 
 /// L0 of all projects, each with its limits: the first of them, and there the first instance, volume or claim, that
@@ -220,14 +225,14 @@ pub fn project_uncounted(
 #[tactic(auto, unfolding(row_machine::specs::machine::LimitRules::counts_broken))]
 pub fn counts_broken(
     alloc: Global,
-    after: &View<'_>,
+    after: &StateRef<'_>,
     projects: &[Limited<'_>],
 ) -> Result<(), Or<Refusal>>
     requires { projects.now ≡ after.now.projects }
     ensures { Says result (counts_broken after.now) }
 {
     for project in projects {
-        if let Err(why) = project_uncounted(alloc, after, project) {
+        if let Err(why) = project_without_amount(alloc, after, project) {
             return Err(why);
         }
     }

@@ -7,7 +7,7 @@ ghost use Rattle.rules_limits.specs.Sums.{line_over};
 use crate::limited::Limited;
 use crate::parts::{key_of, limit_on, limit_rule, limit_text, part_of};
 use project_limits::{LimitKey, Over};
-use records::{Kept, Refusal};
+use records::{Details, Refusal};
 use size_values::{Amounts, NoMemory, Or, Part, Text};
 use std::alloc::Global;
 
@@ -17,7 +17,7 @@ fn over_refusal(alloc: Global, project: &Limited<'_>, over: Over) -> Result<Refu
 {
     let key = Text::from_text(alloc, limit_text(over.key))?;
     let project = project.name().copy(alloc)?;
-    let kept = Kept {
+    let details = Details {
         kind: Text::new(alloc),
         project,
         name: Text::new(alloc),
@@ -28,7 +28,7 @@ fn over_refusal(alloc: Global, project: &Limited<'_>, over: Over) -> Result<Refu
         limit: over.limit,
     };
     let rule = limit_rule(over.key);
-    Ok(Refusal { rule, kept })
+    Ok(Refusal { rule, details })
 }
 
 /// What is used before a change, and what the change asks for above it, are together above a limit.

@@ -8,7 +8,7 @@ ghost use Rattle.rules_limits.specs.Limited.{limits_named};
 use crate::parts::limits_any;
 use project_limits::{Limits, limits_of};
 use records::Project;
-use row_readings::View;
+use row_readings::StateRef;
 use size_values::{NoMemory, Text};
 use std::alloc::Global;
 use std::marker::Model;
@@ -72,7 +72,7 @@ impl<'x> Limited<'x> {
 // ---- one project
 
 /// The limits of the project of this name, if it is there.
-pub fn limits_named(view: &View<'_>, name: &str) -> Option<Limits>
+pub fn limits_named(view: &StateRef<'_>, name: &str) -> Option<Limits>
     ensures { result ≡ limits_named view.now.projects name.now }
 {
     match view.project_named(name) {
@@ -82,7 +82,11 @@ pub fn limits_named(view: &View<'_>, name: &str) -> Option<Limits>
 }
 
 /// The project of this name with its limits, which were read before.
-pub fn limited_named<'x>(view: &View<'x>, name: &str, limits: Option<Limits>) -> Option<Limited<'x>>
+pub fn limited_named<'x>(
+    view: &StateRef<'x>,
+    name: &str,
+    limits: Option<Limits>,
+) -> Option<Limited<'x>>
     requires { limits ≡ limits_named view.now.projects name.now }
     ensures { result ≡ project_named view.now.projects name.now }
 {

@@ -6,33 +6,33 @@ ghost use Rattle.size_values.specs.Causes.{Says};
 ghost use Rattle.size_values.specs.declared.amounts.Amounts.{Amounts as AmountsValue};
 ghost use Rattle.size_values.specs.declared.amounts.Part.{Part as PartValue};
 ghost use Rattle.records.specs.declared.rows.Project.{Project as ProjectValue};
-ghost use Rattle.row_machine.specs.machine.LimitRules.{claim_uncounted};
+ghost use Rattle.row_machine.specs.machine.LimitRules.{claim_without_amount};
 ghost use Rattle.rules_limits.specs.Limited.{limits_named};
 ghost use Rattle.rules_limits.specs.OneProject.{share_broken, share_over};
 
-use crate::counts::claim_uncounted;
+use crate::counts::claim_without_amount;
 use crate::limited::Limited;
 use crate::one_project::amounts_exceed;
 use crate::parts::is_limited_by;
 use project_limits::Limits;
 use records::Refusal;
-use row_machine::Work;
-use row_readings::View;
+use row_machine::Task;
+use row_readings::StateRef;
 use size_values::{Amounts, Or};
 use std::alloc::Global;
 
 /// L0: the row that an operation would put gives no number for a sum that its project limits. No other project is
 /// asked.
-pub fn claim_uncounts(
+pub fn claim_lacks_amount(
     alloc: Global,
-    view: &View<'_>,
+    view: &StateRef<'_>,
     project: &Option<Limited<'_>>,
-    work: &Work,
+    work: &Task,
 ) -> Result<(), Or<Refusal>>
-    ensures { Says result (option_and_then (λ p. claim_uncounted view.now p work.now) project.now) }
+    ensures { Says result (option_and_then (λ p. claim_without_amount view.now p work.now) project.now) }
 {
     match project {
-        Some(project) => claim_uncounted(alloc, view, project, work),
+        Some(project) => claim_without_amount(alloc, view, project, work),
         None => Ok(()),
     }
 }

@@ -8,7 +8,7 @@ ghost use Rattle.rules_limits.specs.AllProjects.{Serves};
 use crate::parts::{have_limits, is_any_limit_set};
 use records::Network;
 use row_machine::RowChange;
-use row_readings::{Load, View, loads};
+use row_readings::{Load, StateRef, loads};
 use size_values::{NoMemory, Text};
 use std::alloc::Global;
 use std::marker::Model;
@@ -51,7 +51,7 @@ impl Usage {
 }
 
 /// What counts for limits, taken before a change.
-pub fn usage_before(alloc: Global, view: &View<'_>) -> Result<Usage, NoMemory>
+pub fn usage_before(alloc: Global, view: &StateRef<'_>) -> Result<Usage, NoMemory>
     ensures { IfOk result (λ u. u ≡ counts_in view.now) }
 {
     let loads = loads(alloc, view)?;
@@ -63,7 +63,7 @@ pub fn usage_before(alloc: Global, view: &View<'_>) -> Result<Usage, NoMemory>
 /// nothing is summed: no limit is exceeded then, whatever counted before.
 pub fn usage_before_changes(
     alloc: Global,
-    view: &View<'_>,
+    view: &StateRef<'_>,
     changes: &[RowChange],
 ) -> Result<Usage, NoMemory>
     ensures { IfOk result (λ u. Serves u view.now (applied view.now changes.now)) }

@@ -2,10 +2,10 @@
 use Rattle.std.specs.Prelude.{ℕ, ◌&&◌, Bool, List}
 use Rattle.std.specs.Str.{bytes_eq}
 use Rattle.records.specs.declared.commands.Target.{Target}
-use Rattle.rules_names.specs.declared.places.Place.{Place}
+use Rattle.rules_names.specs.declared.target_refs.TargetRef.{TargetRef}
 
 -- the target
-abbrev pub target_at : Place → Target
+abbrev pub target_at : TargetRef → Target
 target_at place =
     record { kind = place.kind; pool = place.pool.now; instance = place.instance.now; name = place.name.now }
 

@@ -2,23 +2,23 @@
 ghost use Rattle.std.specs.Prelude.{◌≡◌, find};
 ghost use Rattle.std.specs.Option.{option_copied};
 ghost use Rattle.size_values.specs.Causes.{Says};
-ghost use Rattle.row_machine.specs.shown.Links.{target_of};
+ghost use Rattle.row_machine.specs.shown.Urls.{target_of};
 ghost use Rattle.row_machine.specs.machine.NameRules.{name_malformed, name_taken, same_target, claims_object};
 ghost use Rattle.row_machine.specs.machine.NameRules.{name_held, name_broken};
 ghost use Rattle.rules_names.specs.Pointed.{target_at, has_names};
 
-use crate::places::{Place, is_there};
+use crate::target_refs::{TargetRef, is_there};
 use estate_rules::good_name;
 use operations::Operation;
 use records::{Refusal, Row, Rule};
-use row_machine::Work;
-use row_readings::{View, project_of_row};
+use row_machine::Task;
+use row_readings::{StateRef, project_of_row};
 use rules_refusals::{on_held, on_object};
 use size_values::{ObjectKind, Or};
 use std::alloc::Global;
 
 /// N3: the name is malformed.
-fn name_malformed(alloc: Global, of: Place<'_>) -> Result<(), Or<Refusal>>
+fn name_malformed(alloc: Global, of: TargetRef<'_>) -> Result<(), Or<Refusal>>
     ensures { Says result (name_malformed (target_at of.entry)) }
 {
     if good_name(of.kind, of.name) {
@@ -30,9 +30,9 @@ fn name_malformed(alloc: Global, of: Place<'_>) -> Result<(), Or<Refusal>>
 /// N4: there is an object of the name.
 fn name_taken(
     alloc: Global,
-    view: &View<'_>,
+    view: &StateRef<'_>,
     project: &str,
-    of: Place<'_>,
+    of: TargetRef<'_>,
 ) -> Result<(), Or<Refusal>>
     ensures { Says result (name_taken view.now project.now (target_at of.entry)) }
 {
@@ -43,14 +43,14 @@ fn name_taken(
 }
 
 /// Whether an object has these names.
-fn is_named(pool: &str, instance: &str, name: &str, of: Place<'_>) -> bool
+fn is_named(pool: &str, instance: &str, name: &str, of: TargetRef<'_>) -> bool
     ensures { result ≡ has_names pool.now instance.now name.now (target_at of.entry) }
 {
     pool == of.pool && instance == of.instance && name == of.name
 }
 
 /// Whether a row is this object, in the home that it belongs to.
-fn is_target(row: &Row, of: Place<'_>) -> bool
+fn is_target(row: &Row, of: TargetRef<'_>) -> bool
     ensures { result ≡ same_target (target_of row.now) (target_at of.entry) }
 {
     match row {
@@ -71,7 +71,7 @@ fn is_target(row: &Row, of: Place<'_>) -> bool
 }
 
 /// Whether an operation claims the object of this home.
-fn claims_object(home: &str, of: Place<'_>, work: &Work) -> bool
+fn claims_object(home: &str, of: TargetRef<'_>, work: &Task) -> bool
     ensures { result ≡ claims_object home.now (target_at of.entry) work.now }
 {
     match &work.claim {
@@ -81,10 +81,10 @@ fn claims_object(home: &str, of: Place<'_>, work: &Work) -> bool
 }
 
 fn claiming_operation<'x>(
-    live: &'x [Operation<Work>],
+    live: &'x [Operation<Task>],
     home: &str,
-    of: Place<'_>,
-) -> Option<&'x Operation<Work>>
+    of: TargetRef<'_>,
+) -> Option<&'x Operation<Task>>
     ensures { option_copied result ≡ find (λ o. claims_object home.now (target_at of.entry) o.work) live.now }
 {
     live.iter().find(|o| claims_object(home, of, &o.work))
@@ -93,9 +93,9 @@ fn claiming_operation<'x>(
 /// N5: a live operation would put an object of the name.
 fn name_held(
     alloc: Global,
-    view: &View<'_>,
+    view: &StateRef<'_>,
     project: &str,
-    of: Place<'_>,
+    of: TargetRef<'_>,
 ) -> Result<(), Or<Refusal>>
     ensures { Says result (name_held view.now project.now (target_at of.entry)) }
 {
@@ -111,9 +111,9 @@ fn name_held(
 #[tactic(auto, unfolding(row_machine::specs::machine::NameRules::name_broken))]
 pub(crate) fn name_broken(
     alloc: Global,
-    view: &View<'_>,
+    view: &StateRef<'_>,
     project: &str,
-    of: Place<'_>,
+    of: TargetRef<'_>,
 ) -> Result<(), Or<Refusal>>
     ensures { Says result (name_broken view.now project.now (target_at of.entry)) }
 {

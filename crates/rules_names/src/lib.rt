@@ -4,7 +4,7 @@
 mod free;
 mod missing;
 mod names;
-mod places;
 mod sources;
+mod target_refs;
 
 pub use names::names_broken;

@@ -9,10 +9,10 @@ ghost use Rattle.row_machine.specs.machine.NameRules.{parent_missing, project_mi
 ghost use Rattle.row_machine.specs.machine.NameRules.{what_is_missing};
 ghost use Rattle.row_machine.specs.machine.Kinds.{is_in_project};
 
-use crate::places::{Place, is_there, place_of};
 use crate::sources::source_missing;
+use crate::target_refs::{TargetRef, is_there, target_ref};
 use records::{Command, Refusal, Rule, Target, What};
-use row_readings::{View, kept_at};
+use row_readings::{StateRef, kept_at};
 use rules_refusals::{on_object, on_project};
 use size_values::{ObjectKind, Or};
 use std::alloc::Global;
@@ -65,7 +65,7 @@ fn needs_project(what: &What) -> bool
 #[tactic(auto, unfolding(row_machine::specs::machine::NameRules::project_missing))]
 pub(crate) fn project_missing(
     alloc: Global,
-    view: &View<'_>,
+    view: &StateRef<'_>,
     command: &Command,
 ) -> Result<(), Or<Refusal>>
     ensures { Says result (project_missing view.now command.now) }
@@ -95,9 +95,9 @@ pub(crate) fn missing_unless(
 /// What an object stands in is missing: the pool of a volume, or the instance of a snapshot.
 fn parent_missing(
     alloc: Global,
-    view: &View<'_>,
+    view: &StateRef<'_>,
     project: &str,
-    of: Place<'_>,
+    of: TargetRef<'_>,
 ) -> Result<(), Or<Refusal>>
     ensures { Says result (parent_missing view.now project.now (target_at of.entry)) }
 {
@@ -122,9 +122,9 @@ fn parent_missing(
 /// The object of a path is missing, or what it stands in.
 pub(crate) fn object_missing(
     alloc: Global,
-    view: &View<'_>,
+    view: &StateRef<'_>,
     project: &str,
-    of: Place<'_>,
+    of: TargetRef<'_>,
 ) -> Result<(), Or<Refusal>>
     ensures { Says result (object_missing view.now project.now (target_at of.entry)) }
 {
@@ -135,7 +135,7 @@ pub(crate) fn object_missing(
 /// The snapshot of an instance is missing.
 pub(crate) fn snapshot_missing(
     alloc: Global,
-    view: &View<'_>,
+    view: &StateRef<'_>,
     project: &str,
     instance: &str,
     snapshot: &str,
@@ -147,7 +147,7 @@ pub(crate) fn snapshot_missing(
 }
 
 /// An operation is missing. It is told by its number in decimal digits.
-fn operation_missing(alloc: Global, view: &View<'_>, number: u64) -> Result<(), Or<Refusal>>
+fn operation_missing(alloc: Global, view: &StateRef<'_>, number: u64) -> Result<(), Or<Refusal>>
     ensures { Says result (operation_missing view.now number) }
 {
     if kept_at(view, number).is_some() {
@@ -161,7 +161,7 @@ fn operation_missing(alloc: Global, view: &View<'_>, number: u64) -> Result<(), 
 #[tactic(auto, unfolding(row_machine::specs::machine::NameRules::what_is_missing))]
 pub(crate) fn what_is_missing(
     alloc: Global,
-    view: &View<'_>,
+    view: &StateRef<'_>,
     project: &str,
     what: &What,
 ) -> Result<(), Or<Refusal>>
@@ -169,22 +169,22 @@ pub(crate) fn what_is_missing(
 {
     match what {
         What::Root | What::Server => Ok(()),
-        What::List { of, .. } => parent_missing(alloc, view, project, place_of(of)),
+        What::List { of, .. } => parent_missing(alloc, view, project, target_ref(of)),
         What::Create { of, body } => {
-            parent_missing(alloc, view, project, place_of(of))?;
-            source_missing(alloc, view, project, place_of(of), &body.origin)
+            parent_missing(alloc, view, project, target_ref(of))?;
+            source_missing(alloc, view, project, target_ref(of), &body.origin)
         }
         What::Restore { of, snapshot } => {
-            object_missing(alloc, view, project, place_of(of))?;
+            object_missing(alloc, view, project, target_ref(of))?;
             snapshot_missing(alloc, view, project, of.name.view(), snapshot.view())
         }
-        What::Get { of } => object_missing(alloc, view, project, place_of(of)),
-        What::State { of } => object_missing(alloc, view, project, place_of(of)),
-        What::Put { of, .. } => object_missing(alloc, view, project, place_of(of)),
-        What::Patch { of, .. } => object_missing(alloc, view, project, place_of(of)),
-        What::Move { of, .. } => object_missing(alloc, view, project, place_of(of)),
-        What::Delete { of } => object_missing(alloc, view, project, place_of(of)),
-        What::Act { of, .. } => object_missing(alloc, view, project, place_of(of)),
+        What::Get { of } => object_missing(alloc, view, project, target_ref(of)),
+        What::State { of } => object_missing(alloc, view, project, target_ref(of)),
+        What::Put { of, .. } => object_missing(alloc, view, project, target_ref(of)),
+        What::Patch { of, .. } => object_missing(alloc, view, project, target_ref(of)),
+        What::Move { of, .. } => object_missing(alloc, view, project, target_ref(of)),
+        What::Delete { of } => object_missing(alloc, view, project, target_ref(of)),
+        What::Act { of, .. } => object_missing(alloc, view, project, target_ref(of)),
         What::GetOp { op } => operation_missing(alloc, view, *op),
         What::Cancel { op } => operation_missing(alloc, view, *op),
         What::Wait { op, .. } => operation_missing(alloc, view, *op),

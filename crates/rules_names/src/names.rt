@@ -10,18 +10,18 @@ ghost use Rattle.row_machine.specs.machine.Rules.{names_broken};
 
 use crate::free::name_broken;
 use crate::missing::{project_missing, what_is_missing};
-use crate::places::{Place, named_place, place_of};
+use crate::target_refs::{TargetRef, target_named, target_ref};
 use records::{Command, Refusal, What};
-use row_readings::{View, next_snapshot};
+use row_readings::{StateRef, next_snapshot};
 use size_values::{ObjectKind, Or};
 use std::alloc::Global;
 
 /// What is wrong with the name of a new snapshot. One without a name gets the next one of its instance.
 fn snapshot_name_broken(
     alloc: Global,
-    view: &View<'_>,
+    view: &StateRef<'_>,
     project: &str,
-    of: Place<'_>,
+    of: TargetRef<'_>,
 ) -> Result<(), Or<Refusal>>
     ensures { Says result (name_broken view.now project.now (with_name view.now project.now (target_at of.entry))) }
 {
@@ -32,7 +32,7 @@ fn snapshot_name_broken(
         return name_broken(alloc, view, project, of);
     };
     let name = next_snapshot(alloc, view, row)?;
-    let broken = name_broken(alloc, view, project, named_place(of, name.view()));
+    let broken = name_broken(alloc, view, project, target_named(of, name.view()));
     drop(name);
     broken
 }
@@ -40,9 +40,9 @@ fn snapshot_name_broken(
 /// What is wrong with the name of a new object.
 fn new_name_broken(
     alloc: Global,
-    view: &View<'_>,
+    view: &StateRef<'_>,
     project: &str,
-    of: Place<'_>,
+    of: TargetRef<'_>,
 ) -> Result<(), Or<Refusal>>
     ensures { (body : Body) → Says result (new_name_broken view.now project.now (target_at of.entry) body) }
 {
@@ -61,7 +61,7 @@ fn new_name_broken(
 /// What is wrong with the name that a creation or a rename gives.
 fn given_name_broken(
     alloc: Global,
-    view: &View<'_>,
+    view: &StateRef<'_>,
     project: &str,
     what: &What,
 ) -> Result<(), Or<Refusal>>
@@ -69,9 +69,14 @@ fn given_name_broken(
         (option_and_then (name_broken view.now project.now) (new_name_of view.now project.now what.now)) }
 {
     match what {
-        What::Create { of, .. } => new_name_broken(alloc, view, project, place_of(of)),
+        What::Create { of, .. } => new_name_broken(alloc, view, project, target_ref(of)),
         What::Move { of, to } => {
-            name_broken(alloc, view, project, named_place(place_of(of), to.view()))
+            name_broken(
+                alloc,
+                view,
+                project,
+                target_named(target_ref(of), to.view()),
+            )
         }
         What::Root
         | What::Server
@@ -91,7 +96,11 @@ fn given_name_broken(
 
 /// The first rule on names that a command breaks.
 #[tactic(auto, unfolding(row_machine::specs::machine::Rules::names_broken))]
-pub fn names_broken(alloc: Global, view: &View<'_>, command: &Command) -> Result<(), Or<Refusal>>
+pub fn names_broken(
+    alloc: Global,
+    view: &StateRef<'_>,
+    command: &Command,
+) -> Result<(), Or<Refusal>>
     ensures { Says result (names_broken view.now command.now) }
 {
     let project = command.project.view();

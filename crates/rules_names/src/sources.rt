@@ -6,16 +6,16 @@ ghost use Rattle.rules_names.specs.Sought.{instance_source_missing};
 ghost use Rattle.row_machine.specs.machine.NameRules.{source_missing};
 
 use crate::missing::{missing_unless, object_missing, snapshot_missing};
-use crate::places::{Place, place_in_pool};
+use crate::target_refs::{TargetRef, target_in_pool};
 use records::{Origin, Refusal};
-use row_readings::View;
+use row_readings::StateRef;
 use size_values::{ObjectKind, Or};
 use std::alloc::Global;
 
 /// The instance or the snapshot that something is copied from is missing.
 fn instance_source_missing(
     alloc: Global,
-    view: &View<'_>,
+    view: &StateRef<'_>,
     project: &str,
     from: &str,
     snapshot: &str,
@@ -33,9 +33,9 @@ fn instance_source_missing(
 /// What a copy is made from is missing: a volume in its pool, or an instance or a snapshot of it.
 fn copied_missing(
     alloc: Global,
-    view: &View<'_>,
+    view: &StateRef<'_>,
     project: &str,
-    of: Place<'_>,
+    of: TargetRef<'_>,
     from: &str,
     snapshot: &str,
     pool: &str,
@@ -44,7 +44,7 @@ fn copied_missing(
         (source_missing view.now project.now (target_at of.entry) (origin_of.Copy from.now snapshot.now pool.now)) }
 {
     match of.kind {
-        ObjectKind::Volume => object_missing(alloc, view, project, place_in_pool(of, pool, from)),
+        ObjectKind::Volume => object_missing(alloc, view, project, target_in_pool(of, pool, from)),
         ObjectKind::Project
         | ObjectKind::Profile
         | ObjectKind::Network
@@ -58,9 +58,9 @@ fn copied_missing(
 /// N2: what a new object is copied from is missing.
 pub(crate) fn source_missing(
     alloc: Global,
-    view: &View<'_>,
+    view: &StateRef<'_>,
     project: &str,
-    of: Place<'_>,
+    of: TargetRef<'_>,
     origin: &Origin,
 ) -> Result<(), Or<Refusal>>
     ensures { Says result (source_missing view.now project.now (target_at of.entry) origin.now) }

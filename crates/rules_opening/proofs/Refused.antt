@@ -15,12 +15,12 @@ use Rattle.restrictions.specs.declared.rows.Subject.{Subject}
 use Rattle.records.specs.declared.refusals.Refusal.{Refusal}
 use Rattle.records.specs.declared.refusals.Rule.{Rule}
 use Rattle.records.specs.declared.rows.Project.{Project}
-use Rattle.row_machine.specs.machine.LimitRules.{object_uncounted}
+use Rattle.row_machine.specs.machine.LimitRules.{object_without_amount}
 use Rattle.row_machine.specs.machine.PolicyRules.{forbids, policy_rule, forbidden_key}
 use Rattle.row_machine.specs.machine.Refusals.{on_key_of}
 use Rattle.row_machine.specs.machine.SettingRules.{tables_break, setting_refusal}
 use Rattle.row_machine.specs.opening.Opening.{rule_of}
-use Rattle.rules_opening.specs.Rules.{fault_rule, forbidden_rule, uncounted_by}
+use Rattle.rules_opening.specs.Rules.{fault_rule, forbidden_rule, without_amount_by}
 
 -- the first of two rules, or of a list of them
 
@@ -88,9 +88,9 @@ unrestricted_told p number judged config devices free =
 
 -- sums
 
-pub uncounted_told : (p : Project) (name : List ℕ) (key : Option SumKey) → uncounted_by key ≡ rule_of (object_uncounted p name key)
-uncounted_told p name None = refl
-uncounted_told p name (Some k) = refl
+pub without_amount_told : (p : Project) (name : List ℕ) (key : Option SumKey) → without_amount_by key ≡ rule_of (object_without_amount p name key)
+without_amount_told p name None = refl
+without_amount_told p name (Some k) = refl
 
 -- a refusal where a test says so, told as something else
 pub told-where : {R O : Type 0} (o : O) (b : Bool) (r : R) → b ≡ true → option_map (λ why. o) (cond b (Some r) None) ≡ Some o

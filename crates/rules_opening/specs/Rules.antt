@@ -27,7 +27,7 @@ use Rattle.row_machine.specs.opening.Opening.{Opening, broken, has_all_features,
 use Rattle.row_machine.specs.opening.Opening.{profiles_malformed}
 use Rattle.row_machine.specs.opening.Opening.{defaults_missing, settings_invalid, devices_invalid, root_disk_missing}
 use Rattle.row_machine.specs.opening.Opening.{named_row_missing, forbidden}
-use Rattle.row_machine.specs.opening.Opening.{uncountable}
+use Rattle.row_machine.specs.opening.Opening.{row_lacks_amount}
 use Rattle.rules_opening.specs.declared.rules.RowRule.{RowRule}
 use Rattle.rules_opening.specs.declared.rules.RowRule.TheVariants as row_rule_of
 
@@ -59,8 +59,8 @@ names_missing state instance devices =
     first (profile_missing state instance ∷ devices_miss state instance.project devices ∷ [])
 
 -- what an instance names, with the devices that it has by its profiles
-abbrev pub instance_unlinked : State → Instance → Option Refusal
-instance_unlinked state instance =
+abbrev pub instance_refers_amiss : State → Instance → Option Refusal
+instance_refers_amiss state instance =
     names_missing state instance (expanded_of state.projects state.profiles instance).devices
 
 -- the rule of this number, where it is the first one that the settings and devices of a subject break
@@ -70,8 +70,8 @@ forbidden_rule project number judged config devices =
     (first_forbidden (policy_of project.config) judged config devices)
 
 -- the rule that is broken where some sum gets no number
-abbrev pub uncounted_by : Option SumKey → Option Rule
-uncounted_by key = option_map (λ sum. rule.L0) key
+abbrev pub without_amount_by : Option SumKey → Option Rule
+without_amount_by key = option_map (λ sum. rule.L0) key
 
 -- a rule on one row, by its name
 abbrev pub row_rule : RowRule → State → Row → Option Rule
@@ -84,8 +84,8 @@ row_rule row_rule_of.DevicesInvalid state row = devices_invalid state row
 row_rule row_rule_of.RootDiskMissing state row = root_disk_missing state row
 row_rule row_rule_of.NamedRowMissing state row = named_row_missing state row
 row_rule (row_rule_of.Forbidden number) state row = forbidden number state row
-row_rule row_rule_of.Uncountable state row = uncountable state row
+row_rule row_rule_of.RowLacksAmount state row = row_lacks_amount state row
 
 -- what an opening tells of a limit that is exceeded: its rule, at the project
 abbrev pub breach_of : Refusal → Opening
-breach_of refusal = broken refusal.rule 1 refusal.kept.project
+breach_of refusal = broken refusal.rule 1 refusal.details.project

@@ -4,9 +4,9 @@
 mod breach;
 mod counting;
 mod entries;
-mod links;
 mod places;
 mod policies;
+mod references;
 mod rules;
 mod settings;
 mod whole;

@@ -12,7 +12,7 @@ ghost use Rattle.row_machine.specs.opening.Opening.{has_all_features};
 ghost use Rattle.rules_opening.specs.Rules.{lacks_defaults};
 
 use records::{Project, Row, Rule};
-use row_readings::{View, is_on};
+use row_readings::{StateRef, is_on};
 use size_values::{ObjectKind, Text};
 
 /// The most profiles that an instance may name.
@@ -26,7 +26,7 @@ pub(crate) fn if_so(breaks: bool, rule: Rule) -> Option<Rule>
 }
 
 /// Whether a project is missing, or is not its own home for rows of a kind.
-fn lacks_home(view: &View<'_>, project: &str, kind: ObjectKind) -> bool
+fn lacks_home(view: &StateRef<'_>, project: &str, kind: ObjectKind) -> bool
     ensures { result
         ≡ (is_none (project_named view.now.projects project.now)
         || not (bytes_eq (home_of view.now.projects project.now kind) project.now)) }
@@ -35,7 +35,7 @@ fn lacks_home(view: &View<'_>, project: &str, kind: ObjectKind) -> bool
 }
 
 /// A row's project is missing, or is not its own home for rows of this kind.
-pub(crate) fn home_missing(view: &View<'_>, row: &Row) -> Option<Rule>
+pub(crate) fn home_missing(view: &StateRef<'_>, row: &Row) -> Option<Rule>
     ensures { result ≡ home_missing view.now row.now }
 {
     let (project, kind) = match row {
@@ -50,7 +50,7 @@ pub(crate) fn home_missing(view: &View<'_>, row: &Row) -> Option<Rule>
 }
 
 /// A volume's pool or a snapshot's instance is missing.
-pub(crate) fn parent_row_missing(view: &View<'_>, row: &Row) -> Option<Rule>
+pub(crate) fn parent_row_missing(view: &StateRef<'_>, row: &Row) -> Option<Rule>
     ensures { result ≡ parent_row_missing view.now row.now }
 {
     match row {
@@ -112,7 +112,7 @@ fn has_all_features(project: &Project) -> bool
         && is_on(&project.config, "features.storage.buckets")
 }
 
-fn lacks_defaults(view: &View<'_>, project: &Project) -> bool
+fn lacks_defaults(view: &StateRef<'_>, project: &Project) -> bool
     ensures { result ≡ lacks_defaults view.now project.now }
 {
     let name = project.name.view();
@@ -123,7 +123,7 @@ fn lacks_defaults(view: &View<'_>, project: &Project) -> bool
 }
 
 /// The project `default` lacks a feature, or a project with profiles of its own has no profile `default`.
-pub(crate) fn defaults_missing(view: &View<'_>, row: &Row) -> Option<Rule>
+pub(crate) fn defaults_missing(view: &StateRef<'_>, row: &Row) -> Option<Rule>
     ensures { result ≡ defaults_missing view.now row.now }
 {
     match row {

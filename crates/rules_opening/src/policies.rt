@@ -8,7 +8,7 @@ ghost use Rattle.rules_opening.specs.Rules.{forbidden_rule};
 use config_lists::{Config, Devices};
 use records::{Instance, Profile, Project, Row, Rule};
 use restrictions::{Subject, first_forbidden, is_restricted, policy_of};
-use row_readings::View;
+use row_readings::StateRef;
 use size_values::{Kind, NoMemory};
 use std::alloc::Global;
 
@@ -68,7 +68,7 @@ fn forbids_profile(project: &Project, number: u8, row: &Profile) -> Option<Rule>
 #[tactic(auto, using(crate::proofs::Refused::forbids_told), unfolding(row_machine::specs::machine::PolicyRules::forbids_instance))]
 fn forbids_instance(
     alloc: Global,
-    view: &View<'_>,
+    view: &StateRef<'_>,
     project: &Project,
     number: u8,
     row: &Instance,
@@ -91,7 +91,7 @@ fn forbids_instance(
     Ok(found)
 }
 
-fn profile_forbidden(view: &View<'_>, number: u8, row: &Profile) -> Option<Rule>
+fn profile_forbidden(view: &StateRef<'_>, number: u8, row: &Profile) -> Option<Rule>
     ensures { result ≡ forbidden number view.now (row_of.Profile row.now) }
 {
     match view.project_named(row.project.view()) {
@@ -102,7 +102,7 @@ fn profile_forbidden(view: &View<'_>, number: u8, row: &Profile) -> Option<Rule>
 
 fn instance_forbidden(
     alloc: Global,
-    view: &View<'_>,
+    view: &StateRef<'_>,
     number: u8,
     row: &Instance,
 ) -> Result<Option<Rule>, NoMemory>
@@ -117,7 +117,7 @@ fn instance_forbidden(
 /// The policy of its project forbids a profile or an instance something.
 pub(crate) fn forbidden(
     alloc: Global,
-    view: &View<'_>,
+    view: &StateRef<'_>,
     number: u8,
     row: &Row,
 ) -> Result<Option<Rule>, NoMemory>

@@ -6,13 +6,13 @@ ghost use Rattle.row_machine.specs.opening.Opening.{broken_at, row_breaks, row_r
 ghost use Rattle.rules_opening.specs.Rules.{row_rule};
 
 use crate::breach::{Breach, broken_at};
-use crate::counting::uncountable;
-use crate::links::{named_row_missing, root_disk_missing};
+use crate::counting::row_lacks_amount;
 use crate::places::{defaults_missing, home_missing, parent_row_missing, profiles_malformed};
 use crate::policies::forbidden;
+use crate::references::{named_row_missing, root_disk_missing};
 use crate::settings::{devices_invalid, settings_invalid};
 use records::{Row, Rule};
-use row_readings::View;
+use row_readings::StateRef;
 use size_values::{NoMemory, Or};
 use std::alloc::Global;
 
@@ -29,7 +29,7 @@ pub(crate) enum RowRule {
     NamedRowMissing,
     /// The rule on policy of this number.
     Forbidden(u8),
-    Uncountable,
+    RowLacksAmount,
 }
 
 /// The rules in their order.
@@ -49,13 +49,13 @@ const ROW_RULES: [RowRule; 16] = [
     RowRule::Forbidden(5),
     RowRule::Forbidden(6),
     RowRule::Forbidden(7),
-    RowRule::Uncountable,
+    RowRule::RowLacksAmount,
 ];
 
 /// The rule, where a row breaks it.
 fn broken_rule(
     alloc: Global,
-    view: &View<'_>,
+    view: &StateRef<'_>,
     rule: RowRule,
     row: &Row,
 ) -> Result<Option<Rule>, NoMemory>
@@ -71,11 +71,16 @@ fn broken_rule(
         RowRule::RootDiskMissing => root_disk_missing(alloc, view, row),
         RowRule::NamedRowMissing => named_row_missing(alloc, view, row),
         RowRule::Forbidden(number) => forbidden(alloc, view, number, row),
-        RowRule::Uncountable => uncountable(alloc, view, row),
+        RowRule::RowLacksAmount => row_lacks_amount(alloc, view, row),
     }
 }
 
-fn row_breaks(alloc: Global, view: &View<'_>, rule: RowRule, row: &Row) -> Result<(), Or<Breach>>
+fn row_breaks(
+    alloc: Global,
+    view: &StateRef<'_>,
+    rule: RowRule,
+    row: &Row,
+) -> Result<(), Or<Breach>>
     ensures { Says result (option_map (broken_at row.now) (row_rule rule view.now row.now)) }
 {
     match broken_rule(alloc, view, rule, row)? {
@@ -87,7 +92,7 @@ fn row_breaks(alloc: Global, view: &View<'_>, rule: RowRule, row: &Row) -> Resul
 /// The first row that breaks a rule.
 fn rows_break_rule(
     alloc: Global,
-    view: &View<'_>,
+    view: &StateRef<'_>,
     rule: RowRule,
     rows: &[Row],
 ) -> Result<(), Or<Breach>>
@@ -104,7 +109,7 @@ fn rows_break_rule(
 /// The first of some rules that is broken, and the first row that breaks it.
 fn rows_break_some(
     alloc: Global,
-    view: &View<'_>,
+    view: &StateRef<'_>,
     rules: &[RowRule],
     rows: &[Row],
 ) -> Result<(), Or<Breach>>
@@ -121,7 +126,7 @@ fn rows_break_some(
 /// The first rule on rows that is broken, and the first row that breaks it.
 pub(crate) fn rows_break_rules(
     alloc: Global,
-    view: &View<'_>,
+    view: &StateRef<'_>,
     rows: &[Row],
 ) -> Result<(), Or<Breach>>
     ensures { Says result (first_of (row_breaks view.now rows.now) row_rules) }

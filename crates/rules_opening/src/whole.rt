@@ -16,7 +16,7 @@ use crate::breach::{Breach, broken_at, broken_in};
 use crate::rules::rows_break_rules;
 use records::{Row, Rule};
 use row_codec::{kind_of, row_size};
-use row_readings::View;
+use row_readings::StateRef;
 use rows_made::{LARGEST_ROW, cap_of};
 use rules_limits::standing_limits_broken;
 use size_values::{ObjectKind, Or};
@@ -34,7 +34,7 @@ const ROW_KINDS: [ObjectKind; 7] = [
 ];
 
 /// The project `default` is missing.
-fn default_missing(alloc: Global, view: &View<'_>) -> Result<(), Or<Breach>>
+fn default_missing(alloc: Global, view: &StateRef<'_>) -> Result<(), Or<Breach>>
     ensures { Says result (default_missing view.now) }
 {
     if view.project_named("default").is_some() {
@@ -46,14 +46,14 @@ fn default_missing(alloc: Global, view: &View<'_>) -> Result<(), Or<Breach>>
 // ---- the limits of projects
 
 /// The first limit that a project's usage is above, told at the project.
-fn limit_breach(alloc: Global, view: &View<'_>) -> Result<(), Or<Breach>>
+fn limit_breach(alloc: Global, view: &StateRef<'_>) -> Result<(), Or<Breach>>
     ensures { Says result (option_map breach_of (limits_broken view.now view.now)) }
 {
     match standing_limits_broken(alloc, view) {
         Ok(()) => Ok(()),
         Err(Or::NoMemory) => Err(Or::NoMemory),
         Err(Or::Why(refusal)) => {
-            let told = broken_in(alloc, refusal.kept.project.view(), refusal.rule);
+            let told = broken_in(alloc, refusal.details.project.view(), refusal.rule);
             drop(refusal);
             Err(Or::Why(told?))
         }
@@ -61,7 +61,7 @@ fn limit_breach(alloc: Global, view: &View<'_>) -> Result<(), Or<Breach>>
 }
 
 /// A project's usage is above a limit of its own.
-fn limit_breaks(alloc: Global, view: &View<'_>) -> Result<(), Or<Breach>>
+fn limit_breaks(alloc: Global, view: &StateRef<'_>) -> Result<(), Or<Breach>>
     ensures { Says result (limit_breaks view.now []) }
 {
     limit_breach(alloc, view)
@@ -148,7 +148,7 @@ fn size_breaks(alloc: Global, rows: &[Row]) -> Result<(), Or<Breach>>
 
 /// The first rule that kept rows break, and the row at which they do. The view is that of the rows.
 #[tactic(auto, unfolding(row_machine::specs::opening::Opening::rows_break))]
-pub fn rows_break(alloc: Global, view: &View<'_>, rows: &[Row]) -> Result<(), Or<Breach>>
+pub fn rows_break(alloc: Global, view: &StateRef<'_>, rows: &[Row]) -> Result<(), Or<Breach>>
     ensures { Says result (rows_break view.now rows.now) }
 {
     default_missing(alloc, view)?;

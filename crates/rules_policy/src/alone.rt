@@ -12,14 +12,19 @@ use crate::policy::{NUMBERS, claim_forbids};
 use crate::restricted::Restricted;
 use records::{Profile, Project, Refusal};
 use restrictions::{Subject, is_restricted};
-use row_machine::Work;
-use row_readings::{View, claimed_instance, rows_of};
+use row_machine::Task;
+use row_readings::{StateRef, claimed_instance, rows_of};
 use size_values::{NoMemory, Or};
 use std::alloc::Global;
 
 /// The number of the first rule that a claim breaks in a project, or one above them all. A project that is not
 /// restricted breaks none.
-fn lowest_in(alloc: Global, view: &View<'_>, project: &Project, work: &Work) -> Result<u8, NoMemory>
+fn lowest_in(
+    alloc: Global,
+    view: &StateRef<'_>,
+    project: &Project,
+    work: &Task,
+) -> Result<u8, NoMemory>
     ensures { IfOk result (λ lowest. HoldBelow lowest (λ n. own_claim view.now project.now n work.now)) }
 {
     if !is_restricted(&project.config) {
@@ -31,9 +36,9 @@ fn lowest_in(alloc: Global, view: &View<'_>, project: &Project, work: &Work) -> 
 /// The same over all projects.
 fn lowest_in_all(
     alloc: Global,
-    view: &View<'_>,
+    view: &StateRef<'_>,
     projects: &[Project],
-    work: &Work,
+    work: &Task,
 ) -> Result<u8, NoMemory>
     ensures { IfOk result (λ lowest.
         HoldBelow lowest (λ n. first_of (λ p. own_claim view.now p n work.now) projects.now)) }
@@ -48,10 +53,10 @@ fn lowest_in_all(
 
 fn project_forbids(
     alloc: Global,
-    view: &View<'_>,
+    view: &StateRef<'_>,
     number: u8,
     project: &Project,
-    work: &Work,
+    work: &Task,
 ) -> Result<(), Or<Refusal>>
     ensures { Says result (own_claim view.now project.now number work.now) }
 {
@@ -63,10 +68,10 @@ fn project_forbids(
 
 fn projects_forbid(
     alloc: Global,
-    view: &View<'_>,
+    view: &StateRef<'_>,
     number: u8,
     projects: &[Project],
-    work: &Work,
+    work: &Task,
 ) -> Result<(), Or<Refusal>>
     ensures { Says result (first_of (λ p. own_claim view.now p number work.now) projects.now) }
 {
@@ -81,11 +86,11 @@ fn projects_forbid(
 /// The rule of this number. It is not asked where it is known to hold.
 fn number_forbids(
     alloc: Global,
-    view: &View<'_>,
+    view: &StateRef<'_>,
     lowest: u8,
     number: u8,
     projects: &[Project],
-    work: &Work,
+    work: &Task,
 ) -> Result<(), Or<Refusal>>
     requires { HoldBelow lowest (λ n. first_of (λ p. own_claim view.now p n work.now) projects.now) }
     ensures { Says result (first_of (λ p. own_claim view.now p number work.now) projects.now) }
@@ -99,9 +104,9 @@ fn number_forbids(
 /// The first rule on policy that the instance breaks, and the first of these projects that forbids it.
 fn claim_forbidden_in(
     alloc: Global,
-    view: &View<'_>,
+    view: &StateRef<'_>,
     projects: &[Project],
-    work: &Work,
+    work: &Task,
 ) -> Result<(), Or<Refusal>>
     ensures { Says result (claim_forbidden_in view.now projects.now work.now) }
 {
@@ -116,7 +121,7 @@ fn claim_forbidden_in(
 
 /// F1 to F7: the first rule on policy that the instance breaks which an operation would put, in the project that it
 /// would stand in. No other project is asked.
-pub fn claim_forbidden(alloc: Global, view: &View<'_>, work: &Work) -> Result<(), Or<Refusal>>
+pub fn claim_forbidden(alloc: Global, view: &StateRef<'_>, work: &Task) -> Result<(), Or<Refusal>>
     ensures { Says result (claim_forbidden view.now work.now) }
 {
     match claimed_instance(work) {
@@ -156,7 +161,7 @@ fn first_forbids(alloc: Global, project: &Project, profile: &Profile) -> Result<
 #[tactic(auto, unfolding(crate::specs::Alone::profile_forbidden))]
 pub fn profile_forbidden(
     alloc: Global,
-    view: &View<'_>,
+    view: &StateRef<'_>,
     profile: &Profile,
 ) -> Result<(), Or<Refusal>>
     ensures { Says result (profile_forbidden view.now profile.now) }

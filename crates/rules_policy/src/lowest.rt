@@ -9,8 +9,8 @@ use crate::restricted::{Restricted, subject_of};
 use operations::Operation;
 use records::{Instance, Profile, Project};
 use restrictions::{Subject, is_restricted};
-use row_machine::Work;
-use row_readings::{View, claimed_instance, rows_of};
+use row_machine::Task;
+use row_readings::{StateRef, claimed_instance, rows_of};
 use size_values::{Boxed, NoMemory};
 use std::alloc::Global;
 
@@ -35,7 +35,7 @@ fn lowest_of_profiles(project: &Restricted<'_>, profiles: &[Boxed<Profile>]) -> 
 }
 
 /// The same of all profiles. Those of other projects are not gone over.
-fn lowest_of_own_profiles(view: &View<'_>, project: &Restricted<'_>) -> u8
+fn lowest_of_own_profiles(view: &StateRef<'_>, project: &Restricted<'_>) -> u8
     ensures { HoldBelow result (λ n. first_of (own_profile project.now n) view.now.profiles) }
 {
     lowest_of_profiles(project, rows_of(view.profiles, project.name()))
@@ -44,7 +44,7 @@ fn lowest_of_own_profiles(view: &View<'_>, project: &Restricted<'_>) -> u8
 #[tactic(auto, unfolding(row_machine::specs::machine::PolicyRules::forbids_instance))]
 fn lowest_of_instance(
     alloc: Global,
-    view: &View<'_>,
+    view: &StateRef<'_>,
     project: &Restricted<'_>,
     row: &Instance,
 ) -> Result<u8, NoMemory>
@@ -61,7 +61,7 @@ fn lowest_of_instance(
 
 fn lowest_of_instances(
     alloc: Global,
-    view: &View<'_>,
+    view: &StateRef<'_>,
     project: &Restricted<'_>,
     rows: &[Boxed<Instance>],
 ) -> Result<u8, NoMemory>
@@ -78,7 +78,7 @@ fn lowest_of_instances(
 /// The same of all instances. Those of other projects are not gone over.
 fn lowest_of_own_instances(
     alloc: Global,
-    view: &View<'_>,
+    view: &StateRef<'_>,
     project: &Restricted<'_>,
 ) -> Result<u8, NoMemory>
     ensures { IfOk result
@@ -94,9 +94,9 @@ fn lowest_of_own_instances(
 
 pub(crate) fn lowest_of_claim(
     alloc: Global,
-    view: &View<'_>,
+    view: &StateRef<'_>,
     project: &Restricted<'_>,
-    work: &Work,
+    work: &Task,
 ) -> Result<u8, NoMemory>
     ensures { IfOk result (λ lowest. HoldBelow lowest (λ n. own_claim view.now project.now n work.now)) }
 {
@@ -108,9 +108,9 @@ pub(crate) fn lowest_of_claim(
 
 fn lowest_of_claims(
     alloc: Global,
-    view: &View<'_>,
+    view: &StateRef<'_>,
     project: &Restricted<'_>,
-    live: &[Operation<Work>],
+    live: &[Operation<Task>],
 ) -> Result<u8, NoMemory>
     ensures { IfOk result
         (λ lowest. HoldBelow lowest (λ n. first_of (λ o. own_claim view.now project.now n o.work) live.now)) }
@@ -124,7 +124,7 @@ fn lowest_of_claims(
 }
 
 /// A project that is not restricted breaks none, whatever it has.
-fn lowest_of_project(alloc: Global, view: &View<'_>, project: &Project) -> Result<u8, NoMemory>
+fn lowest_of_project(alloc: Global, view: &StateRef<'_>, project: &Project) -> Result<u8, NoMemory>
     ensures { IfOk result (λ lowest. HoldBelow lowest (λ n. project_forbids view.now n project.now)) }
 {
     if !is_restricted(&project.config) {
@@ -140,7 +140,7 @@ fn lowest_of_project(alloc: Global, view: &View<'_>, project: &Project) -> Resul
 /// The number of the first rule that is broken, or one above them all: no rule of a lower number is broken.
 pub(crate) fn lowest_broken(
     alloc: Global,
-    view: &View<'_>,
+    view: &StateRef<'_>,
     projects: &[Project],
 ) -> Result<u8, NoMemory>
     ensures { IfOk result (λ lowest. HoldBelow lowest (λ n. first_of (project_forbids view.now n) projects.now)) }

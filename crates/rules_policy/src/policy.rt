@@ -10,8 +10,8 @@ use crate::restricted::{Restricted, subject_of};
 use operations::Operation;
 use records::{Instance, Profile, Project, Refusal};
 use restrictions::{Subject, is_restricted};
-use row_machine::Work;
-use row_readings::{View, claimed_instance, rows_of};
+use row_machine::Task;
+use row_readings::{StateRef, claimed_instance, rows_of};
 use size_values::{Boxed, Or};
 use std::alloc::Global;
 
@@ -60,7 +60,7 @@ fn profiles_forbid(
 /// The same of all profiles. Those of other projects are not gone over.
 fn own_profiles_forbid(
     alloc: Global,
-    view: &View<'_>,
+    view: &StateRef<'_>,
     number: u8,
     project: &Restricted<'_>,
 ) -> Result<(), Or<Refusal>>
@@ -78,7 +78,7 @@ fn own_profiles_forbid(
 #[tactic(auto, unfolding(row_machine::specs::machine::PolicyRules::forbids_instance))]
 fn instance_forbids(
     alloc: Global,
-    view: &View<'_>,
+    view: &StateRef<'_>,
     project: &Restricted<'_>,
     number: u8,
     row: &Instance,
@@ -104,7 +104,7 @@ fn instance_forbids(
 /// The first instance of the project that breaks the rule.
 fn instances_forbid(
     alloc: Global,
-    view: &View<'_>,
+    view: &StateRef<'_>,
     project: &Restricted<'_>,
     number: u8,
     rows: &[Boxed<Instance>],
@@ -122,7 +122,7 @@ fn instances_forbid(
 /// The same of all instances. Those of other projects are not gone over.
 fn own_instances_forbid(
     alloc: Global,
-    view: &View<'_>,
+    view: &StateRef<'_>,
     number: u8,
     project: &Restricted<'_>,
 ) -> Result<(), Or<Refusal>>
@@ -140,10 +140,10 @@ fn own_instances_forbid(
 /// A live operation would put an instance of the project that breaks the rule.
 pub(crate) fn claim_forbids(
     alloc: Global,
-    view: &View<'_>,
+    view: &StateRef<'_>,
     project: &Restricted<'_>,
     number: u8,
-    work: &Work,
+    work: &Task,
 ) -> Result<(), Or<Refusal>>
     ensures { Says result (own_claim view.now project.now number work.now) }
 {
@@ -156,10 +156,10 @@ pub(crate) fn claim_forbids(
 /// The first live operation that would put an instance of the project which breaks the rule.
 fn claims_forbid(
     alloc: Global,
-    view: &View<'_>,
+    view: &StateRef<'_>,
     project: &Restricted<'_>,
     number: u8,
-    live: &[Operation<Work>],
+    live: &[Operation<Task>],
 ) -> Result<(), Or<Refusal>>
     ensures { Says result (first_of (λ o. own_claim view.now project.now number o.work) live.now) }
 {
@@ -174,7 +174,7 @@ fn claims_forbid(
 /// The first profile or instance of a project that breaks the rule, those that live operations would put last.
 fn objects_forbid(
     alloc: Global,
-    view: &View<'_>,
+    view: &StateRef<'_>,
     number: u8,
     project: &Restricted<'_>,
 ) -> Result<(), Or<Refusal>>
@@ -188,7 +188,7 @@ fn objects_forbid(
 /// A project that is not restricted forbids nothing, whatever it has.
 fn project_forbids(
     alloc: Global,
-    view: &View<'_>,
+    view: &StateRef<'_>,
     number: u8,
     project: &Project,
 ) -> Result<(), Or<Refusal>>
@@ -203,7 +203,7 @@ fn project_forbids(
 /// The first project at which the rule is broken.
 fn projects_forbid(
     alloc: Global,
-    view: &View<'_>,
+    view: &StateRef<'_>,
     number: u8,
     projects: &[Project],
 ) -> Result<(), Or<Refusal>>
@@ -220,7 +220,7 @@ fn projects_forbid(
 /// The rule of this number. It is not asked where it is known to hold.
 fn number_forbids(
     alloc: Global,
-    view: &View<'_>,
+    view: &StateRef<'_>,
     lowest: u8,
     number: u8,
     projects: &[Project],
@@ -239,7 +239,7 @@ fn number_forbids(
 /// is no second walk.
 pub fn policy_broken_in(
     alloc: Global,
-    after: &View<'_>,
+    after: &StateRef<'_>,
     projects: &[Project],
 ) -> Result<(), Or<Refusal>>
     ensures { Says result (policy_broken_in after.now projects.now) }
@@ -255,7 +255,7 @@ pub fn policy_broken_in(
 
 /// F1 to F7 of all projects.
 #[tactic(auto, unfolding(row_machine::specs::machine::PolicyRules::policy_broken))]
-pub fn policy_broken(alloc: Global, after: &View<'_>) -> Result<(), Or<Refusal>>
+pub fn policy_broken(alloc: Global, after: &StateRef<'_>) -> Result<(), Or<Refusal>>
     ensures { Says result (policy_broken after.now) }
 {
     policy_broken_in(alloc, after, after.projects)

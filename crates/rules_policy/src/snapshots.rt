@@ -10,13 +10,13 @@ ghost use Rattle.row_machine.specs.machine.PolicyRules.{snapshot_blocked};
 
 use records::{Command, Refusal, Rule, What};
 use restrictions::{policy_of, snapshots_forbidden};
-use row_readings::View;
+use row_readings::StateRef;
 use rules_refusals::on_project;
 use size_values::{ObjectKind, Or};
 use std::alloc::Global;
 
 /// The policy of a project forbids snapshots.
-fn project_blocks(alloc: Global, view: &View<'_>, name: &str) -> Result<(), Or<Refusal>>
+fn project_blocks(alloc: Global, view: &StateRef<'_>, name: &str) -> Result<(), Or<Refusal>>
     ensures { Says result (option_and_then (λ p. if snapshots_forbidden (policy_of p.config)
         then Some (on_project rule.F8 p.name) else None) (project_named view.now.projects name.now)) }
 {
@@ -33,7 +33,7 @@ fn project_blocks(alloc: Global, view: &View<'_>, name: &str) -> Result<(), Or<R
 #[tactic(auto, unfolding(row_machine::specs::machine::PolicyRules::snapshot_blocked))]
 pub fn snapshot_blocked(
     alloc: Global,
-    view: &View<'_>,
+    view: &StateRef<'_>,
     command: &Command,
 ) -> Result<(), Or<Refusal>>
     ensures { Says result (snapshot_blocked view.now command.now) }

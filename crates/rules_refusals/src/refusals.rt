@@ -1,18 +1,18 @@
 //! Refusals: a rule with what it tells.
 ghost use Rattle.std.specs.Prelude.{◌≡◌, IfOk};
 ghost use Rattle.row_machine.specs.machine.Kinds.{kind_text};
-ghost use Rattle.row_machine.specs.machine.Refusals.{nothing_told, on_name, on_number, on_object, on_held, on_project};
+ghost use Rattle.row_machine.specs.machine.Refusals.{no_details, on_name, on_number, on_object, on_held, on_project};
 ghost use Rattle.row_machine.specs.machine.Refusals.{on_key_of};
 
-use records::{Kept, Refusal, Rule};
+use records::{Details, Refusal, Rule};
 use size_values::{NoMemory, ObjectKind, Text};
 use std::alloc::Global;
 
 /// The details of a refusal that tells its rule alone.
-pub fn nothing_told(alloc: Global) -> Kept
-    ensures { result ≡ nothing_told }
+pub fn no_details(alloc: Global) -> Details
+    ensures { result ≡ no_details }
 {
-    Kept {
+    Details {
         kind: Text::new(alloc),
         project: Text::new(alloc),
         name: Text::new(alloc),
@@ -45,7 +45,7 @@ pub fn on_name(alloc: Global, rule: Rule, name: &str) -> Result<Refusal, NoMemor
     ensures { IfOk result (λ r. r ≡ on_name rule name.now) }
 {
     let name = Text::from_text(alloc, name)?;
-    let kept = Kept {
+    let details = Details {
         kind: Text::new(alloc),
         project: Text::new(alloc),
         name,
@@ -55,16 +55,16 @@ pub fn on_name(alloc: Global, rule: Rule, name: &str) -> Result<Refusal, NoMemor
         asked: 0,
         limit: 0,
     };
-    Ok(Refusal { rule, kept })
+    Ok(Refusal { rule, details })
 }
 
 /// A refusal by the rule that tells a number.
 pub fn on_number(alloc: Global, rule: Rule, number: u64) -> Refusal
     ensures { result ≡ on_number rule number }
 {
-    let mut kept = nothing_told(alloc);
-    kept.number = number;
-    Refusal { rule, kept }
+    let mut details = no_details(alloc);
+    details.number = number;
+    Refusal { rule, details }
 }
 
 /// A refusal by the rule that tells an object by its kind and name.
@@ -78,7 +78,7 @@ pub fn on_object(
 {
     let kind = Text::from_text(alloc, kind_text(kind))?;
     let name = Text::from_text(alloc, name)?;
-    let kept = Kept {
+    let details = Details {
         kind,
         project: Text::new(alloc),
         name,
@@ -88,7 +88,7 @@ pub fn on_object(
         asked: 0,
         limit: 0,
     };
-    Ok(Refusal { rule, kept })
+    Ok(Refusal { rule, details })
 }
 
 /// A refusal by the rule that tells an object and the operation that holds it.
@@ -102,7 +102,7 @@ pub fn on_held(
     ensures { IfOk result (λ r. r ≡ on_held rule kind name.now number) }
 {
     let mut refusal = on_object(alloc, rule, kind, name)?;
-    refusal.kept.number = number;
+    refusal.details.number = number;
     Ok(refusal)
 }
 
@@ -111,7 +111,7 @@ pub fn on_project(alloc: Global, rule: Rule, project: &str) -> Result<Refusal, N
     ensures { IfOk result (λ r. r ≡ on_project rule project.now) }
 {
     let project = Text::from_text(alloc, project)?;
-    let kept = Kept {
+    let details = Details {
         kind: Text::new(alloc),
         project,
         name: Text::new(alloc),
@@ -121,7 +121,7 @@ pub fn on_project(alloc: Global, rule: Rule, project: &str) -> Result<Refusal, N
         asked: 0,
         limit: 0,
     };
-    Ok(Refusal { rule, kept })
+    Ok(Refusal { rule, details })
 }
 
 /// A refusal by the rule that tells a key of an object, with the project.
@@ -137,7 +137,7 @@ pub fn on_key_of(
     let key = Text::from_text(alloc, key)?;
     let name = Text::from_text(alloc, name)?;
     let project = Text::from_text(alloc, project)?;
-    let kept = Kept {
+    let details = Details {
         kind: Text::new(alloc),
         project,
         name,
@@ -147,7 +147,7 @@ pub fn on_key_of(
         asked: 0,
         limit: 0,
     };
-    Ok(Refusal { rule, kept })
+    Ok(Refusal { rule, details })
 }
 
 /// A refusal by the rule that tells a kind of objects and a number.
@@ -158,10 +158,10 @@ pub fn on_kind(
     number: u64,
 ) -> Result<Refusal, NoMemory>
     ensures { IfOk result (λ r. r
-        ≡ record { rule = rule; kept = record nothing_told { kind = kind_text kind; number = number } }) }
+        ≡ record { rule = rule; details = record no_details { kind = kind_text kind; number = number } }) }
 {
     let kind = Text::from_text(alloc, kind_text(kind))?;
-    let kept = Kept {
+    let details = Details {
         kind,
         project: Text::new(alloc),
         name: Text::new(alloc),
@@ -171,5 +171,5 @@ pub fn on_kind(
         asked: 0,
         limit: 0,
     };
-    Ok(Refusal { rule, kept })
+    Ok(Refusal { rule, details })
 }

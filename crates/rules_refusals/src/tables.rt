@@ -2,13 +2,13 @@
 ghost use Rattle.std.specs.Prelude.{◌≡◌, IfOk};
 ghost use Rattle.std.specs.Map.{keys_of};
 ghost use Rattle.std.specs.Result.{result_err};
-ghost use Rattle.row_machine.specs.machine.Refusals.{nothing_told};
+ghost use Rattle.row_machine.specs.machine.Refusals.{no_details};
 ghost use Rattle.row_machine.specs.machine.SettingRules.{text_at, device_at, device_fault_number, faulty_key};
 ghost use Rattle.row_machine.specs.machine.SettingRules.{setting_refusal, tables_break};
 
 use config_lists::{Config, Devices};
 use option_tables::{DeviceFault, SettingFault, check_devices};
-use records::{Kept, Refusal, Rule};
+use records::{Details, Refusal, Rule};
 use size_values::{NoMemory, Text};
 use std::alloc::Global;
 
@@ -83,11 +83,11 @@ fn on_setting(
     number: u64,
 ) -> Result<Refusal, NoMemory>
     ensures { IfOk result (λ r. r
-        ≡ record { rule = rule; kept = record nothing_told { key = key.now; name = name.now; number = number } }) }
+        ≡ record { rule = rule; details = record no_details { key = key.now; name = name.now; number = number } }) }
 {
     let key = Text::from_text(alloc, key)?;
     let name = Text::from_text(alloc, name)?;
-    let kept = Kept {
+    let details = Details {
         kind: Text::new(alloc),
         project: Text::new(alloc),
         name,
@@ -97,7 +97,7 @@ fn on_setting(
         asked: 0,
         limit: 0,
     };
-    Ok(Refusal { rule, kept })
+    Ok(Refusal { rule, details })
 }
 
 fn setting_refusal(

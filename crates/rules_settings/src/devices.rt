@@ -9,7 +9,7 @@ ghost use Rattle.row_machine.specs.machine.SettingRules.{disk_misses, device_mis
 use config_lists::{Config, Device, Devices};
 use option_tables::SettingFault;
 use records::{Refusal, Rule};
-use row_readings::View;
+use row_readings::StateRef;
 use rules_refusals::{on_object, tables_break};
 use size_values::{ObjectKind, Or};
 use std::alloc::Global;
@@ -45,7 +45,7 @@ pub(crate) fn settings_refuse(
 
 fn network_missing(
     alloc: Global,
-    view: &View<'_>,
+    view: &StateRef<'_>,
     project: &str,
     name: &str,
 ) -> Result<(), Or<Refusal>>
@@ -58,7 +58,7 @@ fn network_missing(
     Err(Or::Why(on_object(alloc, Rule::V5, ObjectKind::Network, name)?))
 }
 
-fn pool_missing(alloc: Global, view: &View<'_>, name: &str) -> Result<(), Or<Refusal>>
+fn pool_missing(alloc: Global, view: &StateRef<'_>, name: &str) -> Result<(), Or<Refusal>>
     ensures { Says result (pool_missing view.now name.now) }
 {
     if view.pool_named(name).is_some() {
@@ -69,7 +69,7 @@ fn pool_missing(alloc: Global, view: &View<'_>, name: &str) -> Result<(), Or<Ref
 
 fn volume_missing(
     alloc: Global,
-    view: &View<'_>,
+    view: &StateRef<'_>,
     project: &str,
     pool: &str,
     name: &str,
@@ -86,7 +86,7 @@ fn volume_missing(
 /// A disk in a pool names the pool, and with a source the volume.
 fn disk_misses(
     alloc: Global,
-    view: &View<'_>,
+    view: &StateRef<'_>,
     project: &str,
     device: &Device,
     pool: &str,
@@ -103,7 +103,7 @@ fn disk_misses(
 /// What a device in a project names: a nic its network, a disk its pool and then its volume.
 fn device_misses(
     alloc: Global,
-    view: &View<'_>,
+    view: &StateRef<'_>,
     project: &str,
     device: &Device,
 ) -> Result<(), Or<Refusal>>
@@ -128,7 +128,7 @@ fn device_misses(
 #[tactic(auto, unfolding(row_machine::specs::machine::SettingRules::devices_miss))]
 pub(crate) fn devices_miss(
     alloc: Global,
-    view: &View<'_>,
+    view: &StateRef<'_>,
     project: &str,
     devices: &Devices,
 ) -> Result<(), Or<Refusal>>

@@ -18,8 +18,8 @@ use config_lists::{Devices, Root};
 use operations::Operation;
 use option_tables::{Scope, check_instance};
 use records::{Instance, Profile, Refusal, Rule};
-use row_machine::Work;
-use row_readings::{View, claimed_instance, rows_at_home};
+use row_machine::Task;
+use row_readings::{StateRef, claimed_instance, rows_at_home};
 use rules_refusals::{on_name, on_object};
 use size_values::{Boxed, Kind, ObjectKind, Or, Text};
 use std::alloc::Global;
@@ -54,7 +54,7 @@ fn root_missing(alloc: Global, devices: &Devices, name: &str) -> Result<(), Or<R
 }
 
 /// The first name of which there is no profile.
-fn missing_name<'x>(view: &View<'_>, home: &str, names: &'x [Text]) -> Option<&'x Text>
+fn missing_name<'x>(view: &StateRef<'_>, home: &str, names: &'x [Text]) -> Option<&'x Text>
     ensures { option_copied result ≡ find (λ name. is_none (profile_named view.now.profiles home.now name)) names.now }
 {
     names
@@ -64,7 +64,7 @@ fn missing_name<'x>(view: &View<'_>, home: &str, names: &'x [Text]) -> Option<&'
 
 /// A profile that an instance names is missing.
 #[tactic(auto, unfolding(row_machine::specs::machine::SettingRules::profile_missing))]
-fn profile_missing(alloc: Global, view: &View<'_>, row: &Instance) -> Result<(), Or<Refusal>>
+fn profile_missing(alloc: Global, view: &StateRef<'_>, row: &Instance) -> Result<(), Or<Refusal>>
     ensures { Says result (profile_missing view.now row.now) }
 {
     let home = view.profile_home(row.project.view());
@@ -77,7 +77,7 @@ fn profile_missing(alloc: Global, view: &View<'_>, row: &Instance) -> Result<(),
 /// The first rule that an instance breaks with the devices that it has, those of its profiles among them.
 fn expansion_broken(
     alloc: Global,
-    view: &View<'_>,
+    view: &StateRef<'_>,
     row: &Instance,
     devices: &Devices,
 ) -> Result<(), Or<Refusal>>
@@ -92,7 +92,7 @@ fn expansion_broken(
 #[tactic(auto, unfolding(row_machine::specs::machine::SettingRules::instance_settings, row_machine::specs::machine::SettingRules::root_missing))]
 pub(crate) fn instance_settings(
     alloc: Global,
-    view: &View<'_>,
+    view: &StateRef<'_>,
     row: &Instance,
 ) -> Result<(), Or<Refusal>>
     ensures { Says result (instance_settings view.now row.now) }
@@ -113,7 +113,7 @@ fn is_among(names: &[Text], name: &str) -> bool
     names.iter().any(|other| other.view() == name)
 }
 
-fn names_profile(view: &View<'_>, profile: &Profile, row: &Instance) -> bool
+fn names_profile(view: &StateRef<'_>, profile: &Profile, row: &Instance) -> bool
     ensures { result ≡ names_profile view.now profile.now.project profile.now.name row.now }
 {
     view.profile_home(row.project.view()) == profile.project.view()
@@ -123,7 +123,7 @@ fn names_profile(view: &View<'_>, profile: &Profile, row: &Instance) -> bool
 /// An instance that names the profile.
 fn settings_where_named(
     alloc: Global,
-    view: &View<'_>,
+    view: &StateRef<'_>,
     profile: &Profile,
     row: &Instance,
 ) -> Result<(), Or<Refusal>>
@@ -137,7 +137,7 @@ fn settings_where_named(
 
 fn instances_break(
     alloc: Global,
-    view: &View<'_>,
+    view: &StateRef<'_>,
     profile: &Profile,
     rows: &[Boxed<Instance>],
 ) -> Result<(), Or<Refusal>>
@@ -154,7 +154,7 @@ fn instances_break(
 /// The instances that are there. Those of projects that can't have the home of the profile are not gone over.
 fn instances_at_home_break(
     alloc: Global,
-    view: &View<'_>,
+    view: &StateRef<'_>,
     profile: &Profile,
 ) -> Result<(), Or<Refusal>>
     ensures { Says result (first_of (where_named view.now profile.now) view.now.instances) }
@@ -165,9 +165,9 @@ fn instances_at_home_break(
 
 fn claim_breaks(
     alloc: Global,
-    view: &View<'_>,
+    view: &StateRef<'_>,
     profile: &Profile,
-    work: &Work,
+    work: &Task,
 ) -> Result<(), Or<Refusal>>
     ensures { Says result (where_claimed view.now profile.now work.now) }
 {
@@ -179,9 +179,9 @@ fn claim_breaks(
 
 fn claims_break(
     alloc: Global,
-    view: &View<'_>,
+    view: &StateRef<'_>,
     profile: &Profile,
-    live: &[Operation<Work>],
+    live: &[Operation<Task>],
 ) -> Result<(), Or<Refusal>>
     ensures { Says result (first_of (λ o. where_claimed view.now profile.now o.work) live.now) }
 {
@@ -193,7 +193,7 @@ fn claims_break(
     Ok(())
 }
 
-fn named_broken(alloc: Global, view: &View<'_>, profile: &Profile) -> Result<(), Or<Refusal>>
+fn named_broken(alloc: Global, view: &StateRef<'_>, profile: &Profile) -> Result<(), Or<Refusal>>
     ensures { Says result (all_named view.now profile.now) }
 {
     instances_at_home_break(alloc, view, profile)?;
@@ -203,7 +203,7 @@ fn named_broken(alloc: Global, view: &View<'_>, profile: &Profile) -> Result<(),
 /// The first of the instances that are or would be there and name a profile that breaks a rule on settings.
 pub(crate) fn naming_settings(
     alloc: Global,
-    view: &View<'_>,
+    view: &StateRef<'_>,
     profile: &Profile,
 ) -> Result<(), Or<Refusal>>
     ensures { Says result (first_of (instance_settings view.now) (naming view.now profile.now)) }

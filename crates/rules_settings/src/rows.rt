@@ -14,12 +14,12 @@ use option_tables::{
 };
 use records::{Profile, Project, Refusal, Row};
 use row_machine::RowChange;
-use row_readings::View;
+use row_readings::StateRef;
 use size_values::Or;
 use std::alloc::Global;
 
 /// The devices of the profile `default` of a project, where it has one.
-fn own_default(alloc: Global, view: &View<'_>, row: &Project) -> Result<(), Or<Refusal>>
+fn own_default(alloc: Global, view: &StateRef<'_>, row: &Project) -> Result<(), Or<Refusal>>
     ensures { Says result (own_default view.now row.now) }
 {
     match view.profile_named(row.name.view(), "default") {
@@ -29,7 +29,7 @@ fn own_default(alloc: Global, view: &View<'_>, row: &Project) -> Result<(), Or<R
 }
 
 #[tactic(auto, unfolding(row_machine::specs::machine::SettingRules::row_settings))]
-fn project_settings(alloc: Global, view: &View<'_>, row: &Project) -> Result<(), Or<Refusal>>
+fn project_settings(alloc: Global, view: &StateRef<'_>, row: &Project) -> Result<(), Or<Refusal>>
     ensures { Says result (row_settings view.now (row_of.Project row.now)) }
 {
     settings_refuse(alloc, &row.config, check_project(&row.config))?;
@@ -38,7 +38,7 @@ fn project_settings(alloc: Global, view: &View<'_>, row: &Project) -> Result<(),
 
 /// A profile by itself.
 #[tactic(auto, unfolding(row_machine::specs::machine::SettingRules::profile_settings))]
-fn profile_settings(alloc: Global, view: &View<'_>, row: &Profile) -> Result<(), Or<Refusal>>
+fn profile_settings(alloc: Global, view: &StateRef<'_>, row: &Profile) -> Result<(), Or<Refusal>>
     ensures { Says result (profile_settings view.now row.now) }
 {
     let settings = check_instance(&row.config, Scope::Any);
@@ -48,7 +48,7 @@ fn profile_settings(alloc: Global, view: &View<'_>, row: &Profile) -> Result<(),
 
 /// A profile by itself and then each instance that names it.
 #[tactic(auto, unfolding(row_machine::specs::machine::SettingRules::row_settings))]
-fn profile_and_named(alloc: Global, view: &View<'_>, row: &Profile) -> Result<(), Or<Refusal>>
+fn profile_and_named(alloc: Global, view: &StateRef<'_>, row: &Profile) -> Result<(), Or<Refusal>>
     ensures { Says result (row_settings view.now (row_of.Profile row.now)) }
 {
     profile_settings(alloc, view, row)?;
@@ -57,7 +57,7 @@ fn profile_and_named(alloc: Global, view: &View<'_>, row: &Profile) -> Result<()
 
 /// The first rule on settings that a row of the view breaks.
 #[tactic(auto, unfolding(row_machine::specs::machine::SettingRules::row_settings))]
-fn row_settings(alloc: Global, view: &View<'_>, row: &Row) -> Result<(), Or<Refusal>>
+fn row_settings(alloc: Global, view: &StateRef<'_>, row: &Row) -> Result<(), Or<Refusal>>
     ensures { Says result (row_settings view.now row.now) }
 {
     match row {
@@ -71,7 +71,11 @@ fn row_settings(alloc: Global, view: &View<'_>, row: &Row) -> Result<(), Or<Refu
     }
 }
 
-fn change_settings(alloc: Global, view: &View<'_>, change: &RowChange) -> Result<(), Or<Refusal>>
+fn change_settings(
+    alloc: Global,
+    view: &StateRef<'_>,
+    change: &RowChange,
+) -> Result<(), Or<Refusal>>
     ensures { Says result (first_of (row_settings view.now) (rows_put (change.now ∷ []))) }
 {
     match change {
@@ -80,7 +84,11 @@ fn change_settings(alloc: Global, view: &View<'_>, change: &RowChange) -> Result
     }
 }
 
-fn changes_break(alloc: Global, view: &View<'_>, changes: &[RowChange]) -> Result<(), Or<Refusal>>
+fn changes_break(
+    alloc: Global,
+    view: &StateRef<'_>,
+    changes: &[RowChange],
+) -> Result<(), Or<Refusal>>
     ensures { Says result (first_of (λ c. first_of (row_settings view.now) (rows_put (c ∷ []))) changes.now) }
 {
     for change in changes {
@@ -95,7 +103,7 @@ fn changes_break(alloc: Global, view: &View<'_>, changes: &[RowChange]) -> Resul
 #[tactic(auto, unfolding(row_machine::specs::machine::SettingRules::settings_broken))]
 pub fn settings_broken(
     alloc: Global,
-    after: &View<'_>,
+    after: &StateRef<'_>,
     changes: &[RowChange],
 ) -> Result<(), Or<Refusal>>
     ensures { Says result (settings_broken after.now (rows_put changes.now)) }
@@ -108,7 +116,7 @@ pub fn settings_broken(
 #[tactic(auto, unfolding(row_machine::specs::machine::SettingRules::settings_broken))]
 pub fn claim_settings_broken(
     alloc: Global,
-    after: &View<'_>,
+    after: &StateRef<'_>,
     claim: Option<&Row>,
 ) -> Result<(), Or<Refusal>>
     ensures { Says result (settings_broken after.now (option_to_list (option_copied claim.entry))) }

@@ -2,22 +2,22 @@
 ghost use Rattle.std.specs.Prelude.{◌≡◌, IfOk, option_and_then, option_map};
 ghost use Rattle.std.specs.Result.{result_err};
 ghost use Rattle.size_values.specs.Causes.{Says};
-ghost use Rattle.operations.specs.Kept.{kept_at, cancel_answer, enter_fault};
+ghost use Rattle.operations.specs.OperationTable.{kept_at, cancel_answer, enter_fault};
 ghost use Rattle.operations.specs.Statuses.{cancel_of};
 ghost use Rattle.records.specs.declared.refusals.Rule.TheVariants as rule;
-ghost use Rattle.row_machine.specs.machine.Refusals.{nothing_told};
+ghost use Rattle.row_machine.specs.machine.Refusals.{no_details};
 ghost use Rattle.row_machine.specs.machine.TableRules.{status_text, cancel_refusal, enter_refusal};
 ghost use Rattle.row_machine.specs.machine.TableRules.{entry_broken, cancel_broken};
 
 use operations::{CancelFault, EnterFault, LIVE_LIMIT, NUMBER_LIMIT, Status};
-use records::{Kept, Refusal, Rule, What};
-use row_readings::{View, kept_at};
+use records::{Details, Refusal, Rule, What};
+use row_readings::{StateRef, kept_at};
 use rules_refusals::on_number;
 use size_values::{NoMemory, Or, Text};
 use std::alloc::Global;
 
 /// Why no operation can be entered.
-pub fn enter_fault(view: &View<'_>) -> Option<EnterFault>
+pub fn enter_fault(view: &StateRef<'_>) -> Option<EnterFault>
     ensures { result ≡ enter_fault view.now.operations }
 {
     if view.live.len() == LIVE_LIMIT {
@@ -42,7 +42,7 @@ pub fn refuse_entry(alloc: Global, fault: Option<EnterFault>) -> Result<(), Or<R
 
 /// O4, O5: no operation can be entered.
 #[tactic(auto, unfolding(row_machine::specs::machine::TableRules::entry_broken))]
-pub fn entry_broken(alloc: Global, view: &View<'_>) -> Result<(), Or<Refusal>>
+pub fn entry_broken(alloc: Global, view: &StateRef<'_>) -> Result<(), Or<Refusal>>
     ensures { Says result (entry_broken view.now) }
 {
     refuse_entry(alloc, enter_fault(view))
@@ -80,10 +80,10 @@ fn cancel_fault(may_cancel: bool, status: Status) -> Option<CancelFault>
 /// The rule, an operation and its status.
 fn on_ended(alloc: Global, number: u64, status: Status) -> Result<Refusal, NoMemory>
     ensures { IfOk result (λ r. r
-        ≡ record { rule = rule.O1; kept = record nothing_told { key = status_text status; number = number } }) }
+        ≡ record { rule = rule.O1; details = record no_details { key = status_text status; number = number } }) }
 {
     let key = Text::from_text(alloc, status_text(status))?;
-    let kept = Kept {
+    let details = Details {
         kind: Text::new(alloc),
         project: Text::new(alloc),
         name: Text::new(alloc),
@@ -95,7 +95,7 @@ fn on_ended(alloc: Global, number: u64, status: Status) -> Result<Refusal, NoMem
     };
     Ok(Refusal {
         rule: Rule::O1,
-        kept,
+        details,
     })
 }
 
@@ -113,7 +113,7 @@ fn cancel_refused(alloc: Global, number: u64, fault: CancelFault) -> Result<(), 
 /// The cancel of the operation of this number is refused. One that is not kept is missing, by a rule on names.
 fn number_cannot_be_cancelled(
     alloc: Global,
-    view: &View<'_>,
+    view: &StateRef<'_>,
     number: u64,
 ) -> Result<(), Or<Refusal>>
     ensures { Says result
@@ -130,7 +130,7 @@ fn number_cannot_be_cancelled(
 
 /// O1 to O3: the operation that a command would cancel is kept, and cannot be cancelled.
 #[tactic(auto, unfolding(row_machine::specs::machine::TableRules::cancel_broken))]
-pub fn cancel_broken(alloc: Global, view: &View<'_>, what: &What) -> Result<(), Or<Refusal>>
+pub fn cancel_broken(alloc: Global, view: &StateRef<'_>, what: &What) -> Result<(), Or<Refusal>>
     ensures { Says result (cancel_broken view.now what.now) }
 {
     match what {

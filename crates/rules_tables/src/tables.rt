@@ -6,14 +6,14 @@ ghost use Rattle.plain_lists.specs.Firsts.{first, first_of};
 ghost use Rattle.size_values.specs.Causes.{Says};
 ghost use Rattle.row_machine.specs.machine.Changes.{rows_put};
 ghost use Rattle.row_machine.specs.machine.Claims.{claimed_instance, claimed_volume, claimed_snapshot};
-ghost use Rattle.row_machine.specs.shown.Links.{target_of};
+ghost use Rattle.row_machine.specs.shown.Urls.{target_of};
 ghost use Rattle.row_machine.specs.machine.TableRules.{count_of, row_kinds, too_many, too_large, tables_broken};
 
 use operations::Operation;
 use records::{Refusal, Row, Rule};
 use row_codec::row_size;
-use row_machine::{RowChange, Work};
-use row_readings::{View, claimed_instance, claimed_snapshot, claimed_volume};
+use row_machine::{RowChange, Task};
+use row_readings::{StateRef, claimed_instance, claimed_snapshot, claimed_volume};
 use rows_made::{LARGEST_ROW, cap_of};
 use rules_refusals::on_kind;
 use size_values::{ObjectKind, Or};
@@ -31,7 +31,7 @@ const ROW_KINDS: [ObjectKind; 7] = [
 ];
 
 /// How many instances an operation claims, one or none.
-fn instances_in(work: &Work) -> usize
+fn instances_in(work: &Task) -> usize
     ensures is { result ≡ length (option_to_list (claimed_instance work.now)) }
     ensures few { result ≤ 1 }
 {
@@ -42,7 +42,7 @@ fn instances_in(work: &Work) -> usize
 }
 
 /// How many instances live operations claim.
-fn claimed_instances(live: &[Operation<Work>]) -> usize
+fn claimed_instances(live: &[Operation<Task>]) -> usize
     ensures { result ≡ length (filter_map (λ o. claimed_instance o.work) live.now) }
 {
     let mut count = 0;
@@ -53,7 +53,7 @@ fn claimed_instances(live: &[Operation<Work>]) -> usize
 }
 
 /// How many volumes an operation claims, one or none.
-fn volumes_in(work: &Work) -> usize
+fn volumes_in(work: &Task) -> usize
     ensures is { result ≡ length (option_to_list (claimed_volume work.now)) }
     ensures few { result ≤ 1 }
 {
@@ -64,7 +64,7 @@ fn volumes_in(work: &Work) -> usize
 }
 
 /// How many volumes live operations claim.
-fn claimed_volumes(live: &[Operation<Work>]) -> usize
+fn claimed_volumes(live: &[Operation<Task>]) -> usize
     ensures { result ≡ length (filter_map (λ o. claimed_volume o.work) live.now) }
 {
     let mut count = 0;
@@ -75,7 +75,7 @@ fn claimed_volumes(live: &[Operation<Work>]) -> usize
 }
 
 /// How many snapshots an operation claims, one or none.
-fn snapshots_in(work: &Work) -> usize
+fn snapshots_in(work: &Task) -> usize
     ensures is { result ≡ length (option_to_list (claimed_snapshot work.now)) }
     ensures few { result ≤ 1 }
 {
@@ -86,7 +86,7 @@ fn snapshots_in(work: &Work) -> usize
 }
 
 /// How many snapshots live operations claim.
-fn claimed_snapshots(live: &[Operation<Work>]) -> usize
+fn claimed_snapshots(live: &[Operation<Task>]) -> usize
     ensures { result ≡ length (filter_map (λ o. claimed_snapshot o.work) live.now) }
 {
     let mut count = 0;
@@ -97,7 +97,7 @@ fn claimed_snapshots(live: &[Operation<Work>]) -> usize
 }
 
 /// How many rows of a kind there are and are claimed. Operations are no rows.
-fn count_of(view: &View<'_>, kind: ObjectKind) -> u128
+fn count_of(view: &StateRef<'_>, kind: ObjectKind) -> u128
     ensures { result ≡ count_of view.now kind }
 {
     match kind {
@@ -113,7 +113,7 @@ fn count_of(view: &View<'_>, kind: ObjectKind) -> u128
 }
 
 /// A table is full.
-fn too_many(alloc: Global, view: &View<'_>, kind: ObjectKind) -> Result<(), Or<Refusal>>
+fn too_many(alloc: Global, view: &StateRef<'_>, kind: ObjectKind) -> Result<(), Or<Refusal>>
     ensures { Says result (too_many view.now kind) }
 {
     let cap = cap_of(kind);
@@ -124,7 +124,7 @@ fn too_many(alloc: Global, view: &View<'_>, kind: ObjectKind) -> Result<(), Or<R
 }
 
 /// The first table that is full.
-fn tables_full(alloc: Global, view: &View<'_>) -> Result<(), Or<Refusal>>
+fn tables_full(alloc: Global, view: &StateRef<'_>) -> Result<(), Or<Refusal>>
     ensures { Says result (first_of (too_many view.now) row_kinds) }
 {
     for kind in ROW_KINDS {
@@ -199,7 +199,7 @@ fn claim_too_large(alloc: Global, claim: Option<&Row>) -> Result<(), Or<Refusal>
 #[tactic(auto, unfolding(row_machine::specs::machine::TableRules::tables_broken))]
 pub fn tables_broken(
     alloc: Global,
-    after: &View<'_>,
+    after: &StateRef<'_>,
     changes: &[RowChange],
 ) -> Result<(), Or<Refusal>>
     ensures { Says result (tables_broken after.now (rows_put changes.now)) }
@@ -212,7 +212,7 @@ pub fn tables_broken(
 #[tactic(auto, unfolding(row_machine::specs::machine::TableRules::tables_broken))]
 pub fn claim_tables_broken(
     alloc: Global,
-    after: &View<'_>,
+    after: &StateRef<'_>,
     claim: Option<&Row>,
 ) -> Result<(), Or<Refusal>>
     ensures { Says result (tables_broken after.now (option_to_list (option_copied claim.entry))) }

@@ -15,7 +15,7 @@ use Rattle.row_machine.specs.declared.events.Answer.{Answer}
 use Rattle.row_machine.specs.machine.State.{State}
 use Rattle.row_machine.specs.machine.Step.{Outcome}
 use Rattle.start_faults.specs.core_reports.specs.Stores.{KeepsRecords}
-use Rattle.serial_steps.specs.Steps.{Site, Step, StepsTo, StepsWhile}
+use Rattle.serial_steps.specs.Steps.{SerialWorld, Step, StepsTo, StepsWhile}
 use Rattle.serial_steps.specs.Counts.{ComesTo, failed_commits, moments_in, keeper_failures_in, host_failures_in}
 use Rattle.serial_steps.proofs.Counting.{all-come_to, caused-later, caused-rose}
 use Rattle.command_words.specs.declared.run_words.Pace.{Pace}
@@ -28,10 +28,10 @@ use Rattle.serial_run.specs.Exchanges.{moments_of}
 
 -- The clock was read for these moments, in their order and before the year 10000; entries that were the records of the
 -- rows are so afterwards; and the counts of the keeper and of the host rose at least so often, and never fell.
-pub record IsAlong (w : Site) (moments : List ℕ) (keeper host : ℕ) (w' : Site) : Type 0 where
+pub record IsAlong (w : SerialWorld) (moments : List ℕ) (keeper host : ℕ) (w' : SerialWorld) : Type 0 where
   pub clock : Reads w.clock moments w'.clock
   pub early : All (λ m. m < moment_limit) moments
-  pub kept : KeepsRecords w.store.told w.serial.state w'.store.told w'.serial.state
+  pub kept : KeepsRecords w.store.contents w.serial.state w'.store.contents w'.serial.state
   pub keeper_failed : RoseBy keeper w.store.failures w'.store.failures
   pub keeper_later : w.store.failures ≤ w'.store.failures
   pub host_failed : RoseBy host w.host.failures w'.host.failures
@@ -51,7 +51,7 @@ early_at (Some m) early = All-cons (λ m. m < moment_limit) m [] early (All-nil 
 
 -- ---- the parts of a way
 
-pub along_none : (w : Site) → IsAlong w [] 0 0 w
+pub along_none : (w : SerialWorld) → IsAlong w [] 0 0 w
 along_none w = record {
   clock = refl;
   early = All-nil (λ m. m < moment_limit);
@@ -63,7 +63,7 @@ along_none w = record {
 }
 
 -- one way, and then another
-pub along_twice : {a b c : Site} {xs ys : List ℕ} {j k m n : ℕ} → IsAlong a xs j m b → IsAlong b ys k n c
+pub along_twice : {a b c : SerialWorld} {xs ys : List ℕ} {j k m n : ℕ} → IsAlong a xs j m b → IsAlong b ys k n c
     → IsAlong a (xs ++ ys) (j + k) (m + n) c
 along_twice {a} {b} {c} {xs} {ys} {j} {k} {m} {n} first then = record {
   clock = reads_twice a.clock b.clock c.clock xs ys first.clock then.clock;
@@ -81,7 +81,7 @@ along_twice {a} {b} {c} {xs} {ys} {j} {k} {m} {n} first then = record {
   later_twice before now after first then = omega arith
 
 -- what was asked for at one moment
-along_carries : {w w' : Site} {asked : Result Command Refusal} {moment : Option ℕ} {outcome : Outcome} {a : Answer}
+along_carries : {w w' : SerialWorld} {asked : Result Command Refusal} {moment : Option ℕ} {outcome : Outcome} {a : Answer}
     → Carries w asked moment outcome a w' → IsAlong w (option_to_list moment) (failed_commits outcome) 0 w'
 along_carries {w} {w'} {asked} {moment} {outcome} {a} h = record {
   clock = h.clock.read;
@@ -99,7 +99,7 @@ along_carries {w} {w'} {asked} {moment} {outcome} {a} h = record {
   falls_not before now same = omega arith
 
 -- steps
-along_comes : {w w' : Site} {steps : List Step} → ComesTo w steps w'
+along_comes : {w w' : SerialWorld} {steps : List Step} → ComesTo w steps w'
     → IsAlong w (moments_in steps) (keeper_failures_in steps) (host_failures_in steps) w'
 along_comes {w} {w'} {steps} h = record {
   clock = h.clock;
@@ -111,23 +111,23 @@ along_comes {w} {w'} {steps} h = record {
   host_later = h.host_later;
 }
 
-along_steps : (w w' : Site) (steps : List Step) → StepsTo w steps w'
+along_steps : (w w' : SerialWorld) (steps : List Step) → StepsTo w steps w'
     → IsAlong w (moments_in steps) (keeper_failures_in steps) (host_failures_in steps) w'
 along_steps w w' steps h = along_comes (all-come_to w steps w' h)
 
 -- steps that were made for a reason are steps
-anyhow : (such : State → Type 0) (w w' : Site) (steps : List Step) → StepsWhile such w steps w' → StepsTo w steps w'
+anyhow : (such : State → Type 0) (w w' : SerialWorld) (steps : List Step) → StepsWhile such w steps w' → StepsTo w steps w'
 anyhow such w w' [] same = same
 anyhow such w w' (s ∷ steps) h = (tt, h.1, h.2, anyhow such h.1 w' steps h.3)
 
 -- the steps of a pace
-along_paced : (p : Pace) (w w' : Site) (steps : List Step) → IsPaced p w steps w'
+along_paced : (p : Pace) (w w' : SerialWorld) (steps : List Step) → IsPaced p w steps w'
     → IsAlong w (moments_in steps) (keeper_failures_in steps) (host_failures_in steps) w'
 along_paced (pace.Steps count) w w' steps h = along_steps w w' steps h.0
 along_paced pace.All w w' steps h = along_steps w w' steps (anyhow _ w w' steps h.0.made)
 
 -- a command whose answer was held back
-along_held : {w w' : Site} {asked : Result Command Refusal} {moment : Option ℕ} {outcome : Outcome} {h : Held} {r : Reply} → HeldBack w asked moment outcome h r w'
+along_held : {w w' : SerialWorld} {asked : Result Command Refusal} {moment : Option ℕ} {outcome : Outcome} {h : Held} {r : Reply} → HeldBack w asked moment outcome h r w'
     → IsAlong w (option_to_list moment ++ held_moments (Some h))
     (failed_commits outcome + held_keeper_failures (Some h)) (held_host_failures (Some h)) w'
 along_held {w} {w'} {asked} {moment} {outcome} {h} {r} held =
@@ -140,7 +140,7 @@ along_held {w} {w'} {asked} {moment} {outcome} {h} {r} held =
       plain n = omega arith
 
 -- what was asked for, at once or after its answer was held back
-along_answered : (w w' : Site) (asked : Result Command Refusal) (moment : Option ℕ) (outcome : Outcome)
+along_answered : (w w' : SerialWorld) (asked : Result Command Refusal) (moment : Option ℕ) (outcome : Outcome)
     (held : Option Held) (r : Reply) → IsAnswered w asked moment outcome held r w'
     → IsAlong w (option_to_list moment ++ held_moments held) (failed_commits outcome + held_keeper_failures held)
     (held_host_failures held) w'
@@ -149,18 +149,18 @@ along_answered w w' asked moment outcome (Some held) r h = along_held h
 
 -- ---- exchanges
 
-pub along_reply : (boot : ℕ) (w w' : Site) (e : Exchange) → Comes boot w e w'
+pub along_reply : (boot : ℕ) (w w' : SerialWorld) (e : Exchange) → Comes boot w e w'
     → IsAlong w (option_to_list e.moment ++ held_moments e.held)
     (failed_commits e.outcome + held_keeper_failures e.held) (held_host_failures e.held) w'
 along_reply boot w w' e h = along_answered w w' (command_of e.request boot) e.moment e.outcome e.held e.reply h
 
-pub along_leads : {boot : ℕ} {follows : Pace} {w w' : Site} {e : Exchange} → Leads boot follows w e w'
+pub along_leads : {boot : ℕ} {follows : Pace} {w w' : SerialWorld} {e : Exchange} → Leads boot follows w e w'
     → IsAlong w (moments_at e) (keeper_failures_at e) (host_failures_at e) w'
 along_leads {boot} {follows} {w} {w'} {e} h =
     along_twice (along_reply boot w h.replied e h.comes) (along_paced follows h.replied w' e.steps h.paced)
 
 -- an exchange, and then more of them
-pub along_more : {w v w' : Site} (e : Exchange) (more : List Exchange)
+pub along_more : {w v w' : SerialWorld} (e : Exchange) (more : List Exchange)
     → IsAlong w (moments_at e) (keeper_failures_at e) (host_failures_at e) v
     → IsAlong v (moments_of more) (keeper_failures_of more) (host_failures_of more) w'
     → IsAlong w (moments_of (e ∷ more)) (keeper_failures_of (e ∷ more)) (host_failures_of (e ∷ more)) w'

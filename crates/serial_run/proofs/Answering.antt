@@ -20,25 +20,25 @@ use Rattle.row_machine.specs.machine.Step.{well, no_memory}
 use Rattle.start_faults.specs.core_rows.specs.Asked.{answered}
 use Rattle.start_faults.specs.core_judging.specs.Judged.{reply_for}
 use Rattle.serial_steps.specs.core_turns.specs.Turns.{IsTurn}
-use Rattle.serial_steps.specs.Steps.{Site, Step, WaitsFor, most_steps}
+use Rattle.serial_steps.specs.Steps.{SerialWorld, Step, WaitsFor, most_steps}
 use Rattle.rest_routes.specs.Answers.{IsDue}
 use Rattle.rest_answers.specs.Asked.{showing}
 use Rattle.rest_answers.specs.Texts.{HasText}
-use Rattle.rest_answers.specs.declared.answers.Answered.{Answered}
+use Rattle.rest_answers.specs.declared.answers.PrintedReply.{PrintedReply}
 use Rattle.rest_routes.specs.Commands.{command_of}
 use Rattle.rest_routes.specs.Known.{server_asked}
 use Rattle.serial_run.specs.Answers.{Answers, Reaches, Shows}
 use Rattle.serial_run.specs.Exchanges.{Carries, carried_out}
 
 -- a command was asked at the next moment of the clock, and was answered so
-pub record Asks (w : Site) (c : Command) (moment : ℕ) (a : Answer) (w' : Site) : Type 0 where
+pub record Asks (w : SerialWorld) (c : Command) (moment : ℕ) (a : Answer) (w' : SerialWorld) : Type 0 where
   pub turn : IsTurn w.serial.state w.store (event.Ask c moment) a w'.serial.state w'.store
   pub hand : w'.serial.hand ≡ w.serial.hand
   pub host : w'.host ≡ w.host
   pub read : Reads w.clock (moment ∷ []) w'.clock
   pub early : moment < moment_limit
 
-carries : {w w' : Site} {c : Command} {moment : ℕ} {a : Answer} (asks : Asks w c moment a w')
+carries : {w w' : SerialWorld} {c : Command} {moment : ℕ} {a : Answer} (asks : Asks w c moment a w')
     → Carries w (Ok c) (Some moment) asks.turn.outcome a w'
 carries {w} {w'} {c} {moment} {a} asks = record {
   is = asks.turn.turns.is;
@@ -51,7 +51,7 @@ carries {w} {w'} {c} {moment} {a} asks = record {
 }
 
 -- a command that was answered at once
-pub replied : {w w' : Site} {c : Command} {moment : ℕ} {a : Answer} (r : Reply) → Asks w c moment a w'
+pub replied : {w w' : SerialWorld} {c : Command} {moment : ℕ} {a : Answer} (r : Reply) → Asks w c moment a w'
     → answered r ≡ a → Reaches w (Ok c) r w'
 replied {w} {w'} {c} {moment} {a} r asks is = record {
   moment = Some moment;
@@ -61,7 +61,7 @@ replied {w} {w'} {c} {moment} {a} r asks is = record {
 }
 
 -- who asks for the server was told of it, by the text that stands ready where the connection stays open
-pub server-replied : (boot : ℕ) (w w' : Site) (request : Request) (result : Answered) (moment : ℕ)
+pub server-replied : (boot : ℕ) (w w' : SerialWorld) (request : Request) (result : PrintedReply) (moment : ℕ)
     → command_of request boot ≡ Ok server_asked → request.last ≡ false
     → IsTurn w.serial.state w.store (event.Ask server_asked moment) (answer.Reply (reply.One view.Server)) w'.serial.state w'.store
     → w'.serial.hand ≡ w.serial.hand → w'.host ≡ w.host → Reads w.clock (moment ∷ []) w'.clock → moment < moment_limit
@@ -75,7 +75,7 @@ server-replied boot w w' request result moment asked stays turn hand host read e
 }
 
 -- an operation was asked for in the project of a command
-abbrev shows_asks : (u w' : Site) (c : Command) (op : ℕ) (r : Reply)
+abbrev shows_asks : (u w' : SerialWorld) (c : Command) (op : ℕ) (r : Reply)
     (shows : Shows c.project op u.serial u.store u.clock r w'.serial w'.store w'.clock)
     → w'.host ≡ u.host → Asks u (showing op c) shows.moment (answered r) w'
 shows_asks u w' c op r shows host = record {
@@ -87,7 +87,7 @@ shows_asks u w' c op r shows host = record {
 }
 
 -- a command whose answer was held back
-pub held_back : {w v u w' : Site} {c : Command} {moment : ℕ} {a : Answer} {op : ℕ} (steps : List Step) (r : Reply)
+pub held_back : {w v u w' : SerialWorld} {c : Command} {moment : ℕ} {a : Answer} {op : ℕ} (steps : List Step) (r : Reply)
     → Asks w c moment a v → answer.Hold op ≡ a
     → WaitsFor op v steps u → length steps ≤ most_steps
     → Shows c.project op u.serial u.store u.clock r w'.serial w'.store w'.clock → w'.host ≡ u.host
@@ -112,7 +112,7 @@ held_back {w} {v} {u} {w'} {c} {moment} {a} {op} steps r asks is waits few shows
 -- ---- requests that ask for no command
 
 -- a request that is refused by its form
-refusal_replies : (w : Site) (refusal : Refusal) → Reaches w (Err refusal) (reply.Refused refusal) w
+refusal_replies : (w : SerialWorld) (refusal : Refusal) → Reaches w (Err refusal) (reply.Refused refusal) w
 refusal_replies w refusal = record {
   moment = None;
   outcome = well;
@@ -134,7 +134,7 @@ refused_memory : (s : State) (asked : Result Command Refusal)
 refused_memory s (Ok c) = refl
 refused_memory s (Err refusal) = refl
 
-memory_replies : (w : Site) (asked : Result Command Refusal) → Reaches w asked reply.NoMemory w
+memory_replies : (w : SerialWorld) (asked : Result Command Refusal) → Reaches w asked reply.NoMemory w
 memory_replies w asked = record {
   moment = None;
   outcome = no_memory;
@@ -151,7 +151,7 @@ memory_replies w asked = record {
 }
 
 -- whatever its reason
-pub unrouted : (w : Site) (asked : Result Command Refusal) (why : Or Refusal) → IsDue why asked
+pub unrouted : (w : SerialWorld) (asked : Result Command Refusal) (why : Or Refusal) → IsDue why asked
     → Reaches w asked (reply_for why) w
 unrouted w asked or.NoMemory due = memory_replies w asked
 unrouted w asked (or.Why refusal) due =

@@ -18,7 +18,7 @@ use Rattle.serial_run.specs.Inputs.{status_of}
 use Rattle.start_faults.specs.Starts.{start_fault}
 use Rattle.serial_run.specs.Runs.{SessionFrom, begun, clock_of}
 use Rattle.serial_run.specs.declared.session.SessionEnd.{SessionEnd}
-use Rattle.serial_run.specs.Worlds.{Inlet, Outlet, Outside, outside, world}
+use Rattle.serial_run.specs.Worlds.{Inlet, Outlet, Outside, outside, session_world}
 use Rattle.serial_run.proofs.Served.{session_still}
 
 -- what was read is what the words say
@@ -126,16 +126,16 @@ runs_by words handed source source' sink sink' keeper keeper' host host' told to
 -- the rows that a keeper's entries open to, and a session from these on
 pub opened_run : (boot : ℕ) (pace : Pace) (before after : Outside) (keeper : Store) (s : Serial) (ends : SessionEnd) (status : ℕ)
     → OpensTo s.state before.keeper keeper → s.hand ≡ None
-    → SessionFrom boot pace (world [] (record before { keeper = keeper }) s) after ends → status ≡ status_of ends
+    → SessionFrom boot pace (session_world [] (record before { keeper = keeper }) s) after ends → status ≡ status_of ends
     → Opened boot pace before after status
 opened_run boot pace before after keeper s ends status opens none follows is = record {
   entries = opens.entries;
-  told = opens.told;
+  contents = opens.contents;
   state = s.state;
   opens = opens.opens;
   ends = ends;
   follows = subst (λ w. SessionFrom boot pace w after ends) same follows;
   status_is = is;
 } where
-  same : world [] (record before { keeper = keeper }) s ≡ begun opens.entries s.state before
-  same = λ i. world [] (record before { keeper = opens.after i }) (record s { hand = none i })
+  same : session_world [] (record before { keeper = keeper }) s ≡ begun opens.entries s.state before
+  same = λ i. session_world [] (record before { keeper = opens.after i }) (record s { hand = none i })

@@ -7,7 +7,7 @@ use Rattle.http_heads.specs.Messages.{Splits, ended}
 use Rattle.http_heads.specs.declared.request.Request.{Request}
 use Rattle.http_front.specs.Clocks.{Readings}
 use Rattle.record_keeper.specs.Store.{Store}
-use Rattle.serial_steps.specs.Steps.{Hosted, Serial, Site, serial, site}
+use Rattle.serial_steps.specs.Steps.{Hosted, Serial, SerialWorld, serial, serial_world}
 use Rattle.row_machine.specs.machine.State.{State}
 use Rattle.start_faults.specs.core_rows.specs.Opening.{OpensTo}
 use Rattle.start_faults.specs.core_rows.specs.declared.opening.OpenFault.{OpenFault}
@@ -19,7 +19,7 @@ use Rattle.serial_run.proofs.Along.{IsAlong}
 use Rattle.serial_run.specs.declared.session.SessionEnd.{SessionEnd}
 use Rattle.serial_run.specs.declared.session.SessionEnd.TheVariants as end
 use Rattle.serial_run.specs.Sessions.{Session}
-use Rattle.serial_run.specs.Worlds.{Outlet, World}
+use Rattle.serial_run.specs.Worlds.{Outlet, SessionWorld}
 use Rattle.rest_answers.proofs.Linking.{appends_twice}
 use Rattle.serial_run.proofs.Served.{Together, together}
 use Rattle.serial_run.proofs.Whole.{IsDue, session_due}
@@ -52,7 +52,7 @@ answered_drill : (boot : ℕ) (stream : List ℕ) (messages : List Request) (sta
     (host : Hosted) (clock : Readings) (sink : Outlet) (store' : Store) (host' : Hosted) (clock' : Readings) (sink' : Outlet)
     (last : Serial) (replies : List ℕ)
     → OpensTo s store opened
-    → Answers boot stream (site (serial s None) opened host clock) (site last store' host' clock') replies end.Ended
+    → Answers boot stream (serial_world (serial s None) opened host clock) (serial_world last store' host' clock') replies end.Ended
     → Tells status (drilled_text replies last.state) sink sink' → Splits stream messages ended
     → DrillsText boot messages status store host clock sink store' host' clock' sink'
 answered_drill boot stream messages status store opened s host clock sink store' host' clock' sink' last replies opens a tells splits = record {
@@ -62,20 +62,20 @@ answered_drill boot stream messages status store opened s host clock sink store'
   exchanges = a.session.exchanges;
   last = last;
   requests_are = due.requests_are;
-  leads = subst (LeadTo boot pace.All (site (serial s None) opened host clock) a.session.exchanges) (sym quiet.site) all.leads;
+  leads = subst (LeadTo boot pace.All (serial_world (serial s None) opened host clock) a.session.exchanges) (sym quiet.serial_world) all.leads;
   moments = along.clock;
   early = along.early;
   written = subst (λ text. Tells status (drilled_text text last.state) sink sink') replies_are tells;
-  kept = along.kept store.told (ap (λ st. st.told) opens.after);
+  kept = along.kept store.contents (ap (λ st. st.contents) opens.after);
   keeper_failed = subst (λ n. RoseBy (keeper_failures_of a.session.exchanges) n store'.failures) (ap (λ st. st.failures) opens.after)
       along.keeper_failed;
   host_failed = along.host_failed;
 } where
-  before : World
-  before = record { held = []; source = a.source; sink = a.sink; site = site (serial s None) opened host clock }
+  before : SessionWorld
+  before = record { held = []; source = a.source; sink = a.sink; serial_world = serial_world (serial s None) opened host clock }
 
-  after : World
-  after = record { held = a.held; source = a.source'; sink = record { held = Some replies; failures = a.failures' }; site = site last store' host' clock' }
+  after : SessionWorld
+  after = record { held = a.held; source = a.source'; sink = record { held = Some replies; failures = a.failures' }; serial_world = serial_world last store' host' clock' }
 
   all : Together boot pace.All before a.session.exchanges a.session.reached
   all = together boot pace.All before a.session.reached a.session.exchanges a.session.serves
@@ -86,10 +86,10 @@ answered_drill boot stream messages status store opened s host clock sink store'
   quiet : StopsQuietly end.Ended a.session.reached after
   quiet = session_quietly boot pace.All before after end.Ended a.session tt
 
-  along : IsAlong before.site (moments_of a.session.exchanges) (keeper_failures_of a.session.exchanges)
-      (host_failures_of a.session.exchanges) after.site
-  along = subst (IsAlong before.site (moments_of a.session.exchanges) (keeper_failures_of a.session.exchanges)
-      (host_failures_of a.session.exchanges)) (sym quiet.site) all.along
+  along : IsAlong before.serial_world (moments_of a.session.exchanges) (keeper_failures_of a.session.exchanges)
+      (host_failures_of a.session.exchanges) after.serial_world
+  along = subst (IsAlong before.serial_world (moments_of a.session.exchanges) (keeper_failures_of a.session.exchanges)
+      (host_failures_of a.session.exchanges)) (sym quiet.serial_world) all.along
 
   replies_are : replies ≡ printed_replies boot a.session.exchanges
   replies_are = all_there_are a.sink.held replies (printed_replies boot a.session.exchanges) a.empty
@@ -104,8 +104,8 @@ pub drill_text : (boot : ℕ) (stream : List ℕ) (status : ℕ) (store : Store)
 drill_text boot stream status store host clock sink store' host' clock' sink' (inr d) messages splits some =
     opened status sink sink' store store' host host' clock clock' d some
 drill_text boot stream status store host clock sink store' host' clock' sink' (inl o) messages splits some = over o.over where
-  by : (d : Drilled boot stream status (site (serial o.state None) o.opened host clock) sink store' host' clock' sink') (ends : SessionEnd)
-      → Answers boot stream (site (serial o.state None) o.opened host clock) (site d.last store' host' clock') d.replies ends
+  by : (d : Drilled boot stream status (serial_world (serial o.state None) o.opened host clock) sink store' host' clock' sink') (ends : SessionEnd)
+      → Answers boot stream (serial_world (serial o.state None) o.opened host clock) (serial_world d.last store' host' clock') d.replies ends
       → TellsDrill ends status (drilled_text d.replies d.last.state) sink sink'
       → DrillsText boot messages status store host clock sink store' host' clock' sink'
   by d end.Ended answers tells = answered_drill boot stream messages status store o.opened o.state host clock sink store' host' clock' sink'
@@ -117,7 +117,7 @@ drill_text boot stream status store host clock sink store' host' clock' sink' (i
   by d end.NoMemory answers tells = wrote status 9 tells.0 (omega arith) some
   by d end.Spent answers tells = wrote status 9 tells.0 (omega arith) some
 
-  over : DrillsOver boot stream status (site (serial o.state None) o.opened host clock) sink store' host' clock' sink'
+  over : DrillsOver boot stream status (serial_world (serial o.state None) o.opened host clock) sink store' host' clock' sink'
       → DrillsText boot messages status store host clock sink store' host' clock' sink'
   over (inl d) = by d d.ends d.answers d.tells
   over (inr out) = wrote status 9 out.status_is (omega arith) some

@@ -17,7 +17,7 @@ use Rattle.command_words.specs.RunWords.{as_run, is_run, now_of, pace_of, words_
 use Rattle.command_words.specs.declared.run_words.CommandWords.{CommandWords}
 use Rattle.command_words.specs.declared.run_words.CommandWords.TheVariants.{Check, Drill, Make, Run}
 use Rattle.serial_run.specs.Commands.{Checks, Drills, DrillsOver, Tells, TellsDrill, Unopened, drilled_text, open_status}
-use Rattle.serial_steps.specs.Steps.{Site, serial, site}
+use Rattle.serial_steps.specs.Steps.{SerialWorld, serial, serial_world}
 use Rattle.workload.specs.Stream.{stream_of}
 use Rattle.serial_run.specs.Most.{most_requests}
 use Rattle.serial_run.specs.Worlds.{Outlet, Outside}
@@ -93,7 +93,7 @@ by_drill end.WriteFault status text before after tells = out_of_memory tells.0
 by_drill end.NoMemory status text before after tells = out_of_memory tells.0
 by_drill end.Spent status text before after tells = out_of_memory tells.0
 
-drilled_cause : (boot : ℕ) (stream : List ℕ) (status : ℕ) (w : Site) (before after : Outside)
+drilled_cause : (boot : ℕ) (stream : List ℕ) (status : ℕ) (w : SerialWorld) (before after : Outside)
     → DrillsOver boot stream status w before.sink after.keeper after.host after.clock after.sink → Cause status before after
 drilled_cause boot stream status w before after (inl d) =
     by_drill d.ends status (drilled_text d.replies d.last.state) before after d.tells
@@ -103,7 +103,7 @@ drills_cause : (boot : ℕ) (stream : List ℕ) (status : ℕ) (before after : O
     → Drills boot stream status before.keeper before.host before.clock before.sink after.keeper after.host after.clock after.sink
     → Cause status before after
 drills_cause boot stream status before after (inl o) =
-    drilled_cause boot stream status (site (serial o.state None) o.opened before.host before.clock) before after o.over
+    drilled_cause boot stream status (serial_world (serial o.state None) o.opened before.host before.clock) before after o.over
 drills_cause boot stream status before after (inr u) = by_opening status before after u.unopened
 
 cause_of : (command : CommandWords) (handed : ℕ) (before after : Outside) (status : ℕ)
@@ -144,7 +144,7 @@ does_text words handed before after status (Some text) (inr c) is =
 pub does_complete : (words : List (List ℕ)) (handed : ℕ) (before after : Outside) (status : ℕ) (known : Option (List ℕ))
     → Does words handed before after status → before.source.left ≡ known
     → IfSome known (λ text. (messages : List Request) → Splits text messages ended → length messages < most_requests
-    → (entries : List Entry) (s : State) → is_run words ≡ true → before.keeper.told ≡ Some entries
+    → (entries : List Entry) (s : State) → is_run words ≡ true → before.keeper.contents ≡ Some entries
     → opening_of entries ≡ opened s
     → ¬ (Rose before.source.failures after.source.failures) → ¬ (Rose before.sink.failures after.sink.failures)
     → ¬ (Rose before.keeper.failures after.keeper.failures) → (status ≡ 0) ⊎ (status ≡ 9))
@@ -207,7 +207,7 @@ does_still words handed before after status (inr c) =
 pub does_unopened : (words : List (List ℕ)) (handed : ℕ) (before after : Outside) (status : ℕ)
     → Does words handed before after status → status ≡ 7
     → (is_some (words_of words) ≡ true) × (after.keeper ≡ after_calls 1 before.keeper)
-    × IfSome before.keeper.told (λ entries. is_refused (opening_of entries) ≡ true)
+    × IfSome before.keeper.contents (λ entries. is_refused (opening_of entries) ≡ true)
 does_unopened words handed before after status (inl runs) seven =
     let top = top_unopened words handed before after status runs seven in (run_is_read (words_of words) top.0, top.1, top.2)
 does_unopened words handed before after status (inr c) seven = only 7 before after status (cause_of c.command handed before after status c.does) seven
@@ -216,12 +216,12 @@ does_unopened words handed before after status (inr c) seven = only 7 before aft
     (λ opening e refused none. (
       ap is_some c.said,
       none.after,
-      tells_refused before.keeper.told opening refused (tells_opening opening before.keeper after.keeper none),
+      tells_refused before.keeper.contents opening refused (tells_opening opening before.keeper after.keeper none),
     ))
     (λ e. let no : ⊥ = omega (arith, e) in absurd no)
 
 pub does_refused : (words : List (List ℕ)) (handed : ℕ) (before after : Outside) (status : ℕ) (known : Option (List Entry))
-    → Does words handed before after status → before.keeper.told ≡ known
+    → Does words handed before after status → before.keeper.contents ≡ known
     → IfSome known (λ entries. is_refused (opening_of entries) ≡ true → is_run words ≡ true
     → ¬ (Rose before.keeper.failures after.keeper.failures)
     → (after.sink.held ≡ before.sink.held) × ((status ≡ 7) ⊎ (status ≡ 9)))

@@ -21,7 +21,7 @@ use Rattle.serial_run.specs.Most.{most_requests}
 use Rattle.serial_run.specs.Sessions.{Session, Serves, ServesAll, Stops, CountsAt, StopsAfterFinal, AllGoOn}
 use Rattle.serial_run.specs.Sessions.{OnlyFinalEnds, end_after_final}
 use Rattle.serial_run.specs.Inputs.{requests_of}
-use Rattle.serial_run.specs.Worlds.{World, input}
+use Rattle.serial_run.specs.Worlds.{SessionWorld, input}
 
 -- ---- clocks
 
@@ -35,34 +35,34 @@ still_reads moment (x ∷ xs) told reads = still_reads moment xs told reads.1
 
 -- What serving requests comes to in all: the bytes to come began with them, the sink took their replies in order, and
 -- they led from the server before to the server after. No count of failures fell.
-pub record Together (boot : ℕ) (pace : Pace) (w : World) (exchanges : List Exchange) (w' : World) : Type 0 where
+pub record Together (boot : ℕ) (pace : Pace) (w : SessionWorld) (exchanges : List Exchange) (w' : SessionWorld) : Type 0 where
   pub read : IfSome (input w) (λ bytes. (rest : List ℕ) × Begins bytes (requests_of exchanges) rest
       × (input w' ≡ Some rest))
   pub written : Appends w.sink.held w'.sink.held (printed_replies boot exchanges)
-  pub leads : LeadTo boot pace w.site exchanges w'.site
-  pub along : IsAlong w.site (moments_of exchanges) (keeper_failures_of exchanges) (host_failures_of exchanges) w'.site
+  pub leads : LeadTo boot pace w.serial_world exchanges w'.serial_world
+  pub along : IsAlong w.serial_world (moments_of exchanges) (keeper_failures_of exchanges) (host_failures_of exchanges) w'.serial_world
   pub reads : w.source.failures ≤ w'.source.failures
   pub writes : w.sink.failures ≤ w'.sink.failures
 
 -- the bytes to come are as before
-same_input : (known : Option (List ℕ)) (w : World) → input w ≡ known
+same_input : (known : Option (List ℕ)) (w : SessionWorld) → input w ≡ known
     → IfSome known (λ bytes. (rest : List ℕ) × Begins bytes [] rest × (input w ≡ Some rest))
 same_input None w is = tt
 same_input (Some bytes) w is = (bytes, refl, is)
 
 -- no requests
-none_together : (boot : ℕ) (pace : Pace) (w : World) → Together boot pace w [] w
+none_together : (boot : ℕ) (pace : Pace) (w : SessionWorld) → Together boot pace w [] w
 none_together boot pace w = record {
   read = same_input (input w) w refl;
   written = appends_nothing w.sink.held;
   leads = refl;
-  along = along_none w.site;
+  along = along_none w.serial_world;
   reads = omega arith;
   writes = omega arith;
 }
 
 -- the bytes to come began with a request, and then with more of them
-reads_first : (next w' : World) (e : Exchange) (more : List Exchange) (known : Option (List ℕ))
+reads_first : (next w' : SessionWorld) (e : Exchange) (more : List Exchange) (known : Option (List ℕ))
     → IfSome known (λ bytes. ReadsNext bytes (input next) next.held (got.Request e.request))
     → IfSome (input next) (λ bytes. (rest : List ℕ) × Begins bytes (requests_of more) rest × (input w' ≡ Some rest))
     → IfSome known (λ bytes. (rest : List ℕ) × Begins bytes (requests_of (e ∷ more)) rest × (input w' ≡ Some rest))
@@ -74,71 +74,71 @@ reads_first next w' e more (Some bytes) first then =
     (rests.0, (first.0, first.1, rests.1), rests.2)
 
 -- one request, and then more of them
-first_together : (boot : ℕ) (pace : Pace) (w next w' : World) (e : Exchange) (more : List Exchange)
+first_together : (boot : ℕ) (pace : Pace) (w next w' : SessionWorld) (e : Exchange) (more : List Exchange)
     → Serves boot pace w next e → Together boot pace next more w'
     → Together boot pace w (e ∷ more) w'
 first_together boot pace w next w' e more serves then = record {
   read = reads_first next w' e more (input w) serves.asked.next then.read;
   written = appends_twice w.sink.held next.sink.held w'.sink.held (printed e.reply boot e.request.last)
       (printed_replies boot more) serves.replied.written then.written;
-  leads = (next.site, serves.leads, then.leads);
+  leads = (next.serial_world, serves.leads, then.leads);
   along = along_more e more (along_leads serves.leads) then.along;
   reads = omega (arith, serves.asked.later, then.reads);
   writes = omega (arith, serves.replied.later, then.writes);
 }
 
 -- all of them
-pub together : (boot : ℕ) (pace : Pace) (w w' : World) (exchanges : List Exchange)
+pub together : (boot : ℕ) (pace : Pace) (w w' : SessionWorld) (exchanges : List Exchange)
     → ServesAll boot pace w exchanges w' → Together boot pace w exchanges w'
 together boot pace w w' [] same = subst (Together boot pace w []) same (none_together boot pace w)
 together boot pace w w' (e ∷ more) serves =
     first_together boot pace w serves.0 w' e more serves.1 (together boot pace serves.0 w' more serves.2)
 
 -- where the server is as before, the clock was not read
-unread_reads : (w w' : World) → w'.site ≡ w.site → (moments : List ℕ) × Reads w.site.clock moments w'.site.clock
+unread_reads : (w w' : SessionWorld) → w'.serial_world ≡ w.serial_world → (moments : List ℕ) × Reads w.serial_world.clock moments w'.serial_world.clock
 unread_reads w w' same = ([], ap (λ v. v.clock) same)
 
 -- the clock of a session gave the moments of its requests, and perhaps some more
-stop_reads : (boot : ℕ) (ends : SessionEnd) (w w' : World) → Stops boot ends w w'
-    → (moments : List ℕ) × Reads w.site.clock moments w'.site.clock
+stop_reads : (boot : ℕ) (ends : SessionEnd) (w w' : SessionWorld) → Stops boot ends w w'
+    → (moments : List ℕ) × Reads w.serial_world.clock moments w'.serial_world.clock
 stop_reads boot end.Ended w w' stops = unread_reads w w' stops.1
 stop_reads boot end.Cut w w' stops = unread_reads w w' stops.2
 stop_reads boot (end.Malformed fault) w w' stops = unread_reads w w' stops.1
 stop_reads boot end.ReadFault w w' stops = unread_reads w w' stops.1
-stop_reads boot end.WriteFault w w' (inl stops) = (_, (along_reply boot w.site w'.site stops.0 stops.1.comes).clock)
+stop_reads boot end.WriteFault w w' (inl stops) = (_, (along_reply boot w.serial_world w'.serial_world stops.0 stops.1.comes).clock)
 stop_reads boot end.WriteFault w w' (inr stops) = unread_reads w w' stops.2
-stop_reads boot end.Spent w w' same = unread_reads w w' (ap (λ v. v.site) same)
+stop_reads boot end.Spent w w' same = unread_reads w w' (ap (λ v. v.serial_world) same)
 stop_reads boot end.NoMemory w w' (inl stops) = unread_reads w w' stops.1
 stop_reads boot end.NoMemory w w' (inr (inl stops)) = unread_reads w w' stops.2
-stop_reads boot end.NoMemory w w' (inr (inr stops)) = (_, (along_reply boot w.site w'.site stops.0 stops.1.comes).clock)
+stop_reads boot end.NoMemory w w' (inr (inr stops)) = (_, (along_reply boot w.serial_world w'.serial_world stops.0 stops.1.comes).clock)
 
 -- a clock that stands still tells the same after a session
-pub session_still : (boot : ℕ) (pace : Pace) (moment : ℕ) (w w' : World) (ends : SessionEnd)
-    → w.site.clock ≡ standing_still moment → Session boot pace w w' ends
-    → w'.site.clock ≡ standing_still moment
+pub session_still : (boot : ℕ) (pace : Pace) (moment : ℕ) (w w' : SessionWorld) (ends : SessionEnd)
+    → w.serial_world.clock ≡ standing_still moment → Session boot pace w w' ends
+    → w'.serial_world.clock ≡ standing_still moment
 session_still boot pace moment w w' ends still s = by s.stops where
   all : Together boot pace w s.exchanges s.reached
   all = together boot pace w s.reached s.exchanges s.serves
 
-  then : (told : Readings) (more : List ℕ) → Reads s.reached.site.clock more told → told ≡ standing_still moment
+  then : (told : Readings) (more : List ℕ) → Reads s.reached.serial_world.clock more told → told ≡ standing_still moment
   then told more reads = still_reads moment (moments_of s.exchanges ++ more) told
       (subst (λ known. Reads known (moments_of s.exchanges ++ more) told) still
-      (reads_twice w.site.clock s.reached.site.clock told (moments_of s.exchanges) more all.along.clock reads))
+      (reads_twice w.serial_world.clock s.reached.serial_world.clock told (moments_of s.exchanges) more all.along.clock reads))
 
   by : (AllGoOn s.exchanges × Stops boot ends s.reached w')
-      ⊎ (OnlyFinalEnds s.exchanges × StopsAfterFinal ends × (w' ≡ s.reached)) → w'.site.clock ≡ standing_still moment
+      ⊎ (OnlyFinalEnds s.exchanges × StopsAfterFinal ends × (w' ≡ s.reached)) → w'.serial_world.clock ≡ standing_still moment
   by (inl (going, stops)) = let reads : (moments : List ℕ)
-      × Reads s.reached.site.clock moments w'.site.clock = stop_reads boot ends s.reached w' stops in
-      then w'.site.clock reads.0 reads.1
-  by (inr (only, is, same)) = then w'.site.clock [] (ap (λ v. v.site.clock) same)
+      × Reads s.reached.serial_world.clock moments w'.serial_world.clock = stop_reads boot ends s.reached w' stops in
+      then w'.serial_world.clock reads.0 reads.1
+  by (inr (only, is, same)) = then w'.serial_world.clock [] (ap (λ v. v.serial_world.clock) same)
 
 -- the buffer never holds more than it may
-few_along : (boot : ℕ) (pace : Pace) (w w' : World) (exchanges : List Exchange) → length w.held ≤ most_held
+few_along : (boot : ℕ) (pace : Pace) (w w' : SessionWorld) (exchanges : List Exchange) → length w.held ≤ most_held
     → ServesAll boot pace w exchanges w' → length w'.held ≤ most_held
 few_along boot pace w w' [] few same = subst (λ v. length v.held ≤ most_held) same few
 few_along boot pace w w' (e ∷ more) few serves = few_along boot pace serves.0 w' more serves.1.asked.few serves.2
 
-few_at : (boot : ℕ) (ends : SessionEnd) (w w' : World) → Stops boot ends w w' → length w.held ≤ most_held
+few_at : (boot : ℕ) (ends : SessionEnd) (w w' : SessionWorld) → Stops boot ends w w' → length w.held ≤ most_held
     → length w'.held ≤ most_held
 few_at boot end.Ended w w' stops few = stops.0.few
 few_at boot end.Cut w w' stops few = stops.1.few
@@ -151,7 +151,7 @@ few_at boot end.NoMemory w w' (inl stops) few = stops.0.few
 few_at boot end.NoMemory w w' (inr (inl stops)) few = stops.1.few
 few_at boot end.NoMemory w w' (inr (inr stops)) few = stops.1.asked.few
 
-pub session_few : (boot : ℕ) (pace : Pace) (w w' : World) (ends : SessionEnd) → length w.held ≤ most_held
+pub session_few : (boot : ℕ) (pace : Pace) (w w' : SessionWorld) (ends : SessionEnd) → length w.held ≤ most_held
     → Session boot pace w w' ends → length w'.held ≤ most_held
 session_few boot pace w w' ends few s = by s.stops where
   by : (AllGoOn s.exchanges × Stops boot ends s.reached w')
@@ -163,7 +163,7 @@ session_few boot pace w w' ends few s = by s.stops where
 -- ---- one more request
 
 -- requests are served, and then one more
-serves_one_more : (boot : ℕ) (pace : Pace) (a b c : World) (xs : List Exchange) (e : Exchange)
+serves_one_more : (boot : ℕ) (pace : Pace) (a b c : SessionWorld) (xs : List Exchange) (e : Exchange)
     → ServesAll boot pace a xs b → Serves boot pace b c e
     → ServesAll boot pace a (xs ++ e ∷ []) c
 serves_one_more boot pace a b c [] e same serves = (c, subst (λ v. Serves boot pace v c e) (sym same) serves, refl)
@@ -183,18 +183,18 @@ only_final_append (x ∷ []) y first last = (first.0, last)
 only_final_append (x ∷ z ∷ xs) y first last = (first.0, only_final_append (z ∷ xs) y first.1 last)
 
 -- so far this many requests were served, and none of them was the last on its connection
-pub record ServesSoFar (boot : ℕ) (pace : Pace) (w w' : World) (count : ℕ) : Type 0 where
+pub record ServesSoFar (boot : ℕ) (pace : Pace) (w w' : SessionWorld) (count : ℕ) : Type 0 where
   pub exchanges : List Exchange
   pub serves : ServesAll boot pace w exchanges w'
   pub going : AllGoOn exchanges
   pub counted : length exchanges ≡ count
 
 -- none were served from any world to itself
-pub none_so_far : (boot : ℕ) (pace : Pace) (w : World) → ServesSoFar boot pace w w 0
+pub none_so_far : (boot : ℕ) (pace : Pace) (w : SessionWorld) → ServesSoFar boot pace w w 0
 none_so_far boot pace w = record { exchanges = []; serves = refl; going = tt; counted = refl }
 
 -- one more request was served, and goes on
-pub one_more : (boot : ℕ) (pace : Pace) (a b c : World) (count : ℕ) → ServesSoFar boot pace a b count
+pub one_more : (boot : ℕ) (pace : Pace) (a b c : SessionWorld) (count : ℕ) → ServesSoFar boot pace a b count
     → (e : Exchange) × Serves boot pace b c e × (e.request.last ≡ false)
     → ServesSoFar boot pace a c (count + 1)
 one_more boot pace a b c count far next = record {
@@ -207,7 +207,7 @@ one_more boot pace a b c count far next = record {
 -- ---- stops
 
 -- a session stops after requests that go on
-pub session_stops : (boot : ℕ) (pace : Pace) (a b c : World) (count : ℕ) (ends : SessionEnd)
+pub session_stops : (boot : ℕ) (pace : Pace) (a b c : SessionWorld) (count : ℕ) (ends : SessionEnd)
     → ServesSoFar boot pace a b count → count < most_requests
     → Stops boot ends b c × (ends ≢ end.Spent) → Session boot pace a c ends
 session_stops boot pace a b c count ends far few stops = record {
@@ -230,7 +230,7 @@ session_stops boot pace a b c count ends far few stops = record {
   by end.Spent isnt = absurd (isnt refl)
 
 -- a session stops after a final request
-pub session_final : (boot : ℕ) (pace : Pace) (a b c : World) (count : ℕ) (ends : SessionEnd)
+pub session_final : (boot : ℕ) (pace : Pace) (a b c : SessionWorld) (count : ℕ) (ends : SessionEnd)
     → ServesSoFar boot pace a b count → count < most_requests
     → (e : Exchange) × Serves boot pace b c e × (e.request.last ≡ true) → ends ≡ end_after_final count
     → Session boot pace a c ends
@@ -268,7 +268,7 @@ session_final boot pace a b c count ends far few next is =
         below no_full = grind (arith, nat_tests)
 
 -- a session stops where it has answered all that it may
-pub session_spent : (boot : ℕ) (pace : Pace) (a b : World) → ServesSoFar boot pace a b most_requests
+pub session_spent : (boot : ℕ) (pace : Pace) (a b : SessionWorld) → ServesSoFar boot pace a b most_requests
     → Session boot pace a b end.Spent
 session_spent boot pace a b far = record {
   exchanges = far.exchanges;

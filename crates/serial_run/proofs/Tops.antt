@@ -32,7 +32,7 @@ use Rattle.serial_run.specs.Sessions.{Session, Stops, StopsAfterFinal, AllGoOn, 
 use Rattle.serial_run.specs.Inputs.{answered, end_due}
 use Rattle.rest_answers.specs.Lasts.{has_last, through_last}
 use Rattle.serial_run.specs.Texts.{RunsText, is_fault}
-use Rattle.serial_run.specs.Worlds.{Outside, World, within, world}
+use Rattle.serial_run.specs.Worlds.{Outside, SessionWorld, within, session_world}
 use Rattle.rest_answers.proofs.Linking.{appends_nothing, appends_twice}
 use Rattle.serial_run.proofs.Served.{Together, together}
 use Rattle.serial_run.proofs.Quiet.{StopsQuietly, session_quietly}
@@ -43,18 +43,18 @@ use Rattle.serial_run.proofs.Whole.{IsSettled, IsDue, session_due, text_at, not_
 -- a settled session over a known text, from the first rows and their records on, does what the text asks
 session_text : (boot : ℕ) (pace : Pace) (before after : Outside) (status : ℕ) (r : Opened boot pace before after status)
     (ends : SessionEnd) (text : List ℕ) (messages : List Request) (ending : Ending)
-    → Session boot pace (begun r.entries r.state before) (world r.follows.held after r.follows.serial) ends
+    → Session boot pace (begun r.entries r.state before) (session_world r.follows.held after r.follows.serial) ends
     → before.source.left ≡ Some text → Splits text messages ending → IsSettled ends
     → RunsText boot pace messages ending (status_of ends) before after
 session_text boot pace before after status r ends text messages ending s known splits settled = record {
   entries = r.entries;
-  told = r.told;
+  contents = r.contents;
   state = r.state;
   opens = r.opens;
   exchanges = s.exchanges;
   last = r.follows.serial;
   requests_are = due.requests_are;
-  leads = subst (LeadTo boot pace (begun r.entries r.state before).site s.exchanges) (sym quiet.site) all.leads;
+  leads = subst (LeadTo boot pace (begun r.entries r.state before).serial_world s.exchanges) (sym quiet.serial_world) all.leads;
   moments = along.clock;
   early = along.early;
   status_is = sym (ap (λ e. e.status) due.end_is);
@@ -62,7 +62,7 @@ session_text boot pace before after status r ends text messages ending s known s
       (sym (ap (λ e. e.text) due.end_is))
       (appends_twice before.sink.held s.reached.sink.held after.sink.held (printed_replies boot s.exchanges)
       (text_at ends) all.written quiet.written);
-  kept = along.kept before.keeper.told refl;
+  kept = along.kept before.keeper.contents refl;
   keeper_failed = along.keeper_failed;
   host_failed = along.host_failed;
 } where
@@ -70,21 +70,21 @@ session_text boot pace before after status r ends text messages ending s known s
   all = together boot pace (begun r.entries r.state before) s.reached s.exchanges s.serves
 
   due : IsDue messages ending ends s.exchanges
-  due = session_due boot pace (begun r.entries r.state before) (world r.follows.held after r.follows.serial) ends text messages ending s
+  due = session_due boot pace (begun r.entries r.state before) (session_world r.follows.held after r.follows.serial) ends text messages ending s
       (ap (prepend_known []) known) splits settled
 
-  quiet : StopsQuietly ends s.reached (world r.follows.held after r.follows.serial)
-  quiet = session_quietly boot pace (begun r.entries r.state before) (world r.follows.held after r.follows.serial) ends s settled
+  quiet : StopsQuietly ends s.reached (session_world r.follows.held after r.follows.serial)
+  quiet = session_quietly boot pace (begun r.entries r.state before) (session_world r.follows.held after r.follows.serial) ends s settled
 
-  along : IsAlong (begun r.entries r.state before).site (moments_of s.exchanges) (keeper_failures_of s.exchanges)
+  along : IsAlong (begun r.entries r.state before).serial_world (moments_of s.exchanges) (keeper_failures_of s.exchanges)
       (host_failures_of s.exchanges) (within after r.follows.serial)
-  along = subst (IsAlong (begun r.entries r.state before).site (moments_of s.exchanges) (keeper_failures_of s.exchanges)
-      (host_failures_of s.exchanges)) (sym quiet.site) all.along
+  along = subst (IsAlong (begun r.entries r.state before).serial_world (moments_of s.exchanges) (keeper_failures_of s.exchanges)
+      (host_failures_of s.exchanges)) (sym quiet.serial_world) all.along
 
 -- ---- what the exit status tells
 
 -- what a session tells of the outside where it stops so: a source that has ended, or a count that rose
-abbrev Tells : SessionEnd → World → World → Type 0
+abbrev Tells : SessionEnd → SessionWorld → SessionWorld → Type 0
 Tells end.Ended w w' = Unit {0}
 Tells end.Cut w w' = w'.source.ended ≡ true
 Tells (end.Malformed fault) w w' = Unit {0}
@@ -97,7 +97,7 @@ Tells end.NoMemory w w' = Unit {0}
 rose_from : (a b c : ℕ) → a ≤ b → Rose b c → Rose a c
 rose_from a b c later rose = omega (arith, later, rose)
 
-stop_tells : (boot : ℕ) (ends : SessionEnd) (w v w' : World) → w.source.failures ≤ v.source.failures
+stop_tells : (boot : ℕ) (ends : SessionEnd) (w v w' : SessionWorld) → w.source.failures ≤ v.source.failures
     → w.sink.failures ≤ v.sink.failures → Stops boot ends v w' → Tells ends w w'
 stop_tells boot end.Ended w v w' reads writes stops = tt
 stop_tells boot end.Cut w v w' reads writes stops = stops.1.ended
@@ -108,7 +108,7 @@ stop_tells boot end.WriteFault w v w' reads writes (inr stops) = rose_from _ _ _
 stop_tells boot end.Spent w v w' reads writes stops = tt
 stop_tells boot end.NoMemory w v w' reads writes stops = tt
 
-final_tells : (ends : SessionEnd) (w w' : World) → StopsAfterFinal ends → Tells ends w w'
+final_tells : (ends : SessionEnd) (w w' : SessionWorld) → StopsAfterFinal ends → Tells ends w w'
 final_tells end.Ended w w' is = tt
 final_tells end.Spent w w' is = tt
 final_tells end.Cut w w' is = absurd is
@@ -117,7 +117,7 @@ final_tells end.ReadFault w w' is = absurd is
 final_tells end.WriteFault w w' is = absurd is
 final_tells end.NoMemory w w' is = absurd is
 
-session_tells : (boot : ℕ) (pace : Pace) (w w' : World) (ends : SessionEnd) → Session boot pace w w' ends
+session_tells : (boot : ℕ) (pace : Pace) (w w' : SessionWorld) (ends : SessionEnd) → Session boot pace w w' ends
     → Tells ends w w'
 session_tells boot pace w w' ends s = by s.stops where
   all : Together boot pace w s.exchanges s.reached
@@ -140,10 +140,10 @@ pub top_cut : (words : List (List ℕ)) (handed : ℕ) (before after : Outside) 
     → Runs words handed before after status → status ≡ 2 → after.source.ended ≡ true
 top_cut words handed before after status (inr refused) two =
     no_start refused.why 2 (sym refused.status_is ∙ two) (omega arith)
-top_cut words handed before after status (inl ran) two = by ran.opened.ends (session_tells (boot_with words handed) (pace_of words) (begun ran.opened.entries ran.opened.state (seen_with words before)) (world ran.opened.follows.held (seen_with words after) ran.opened.follows.serial) ran.opened.ends ran.opened.follows.session) (sym ran.opened.status_is ∙ two) where
+top_cut words handed before after status (inl ran) two = by ran.opened.ends (session_tells (boot_with words handed) (pace_of words) (begun ran.opened.entries ran.opened.state (seen_with words before)) (session_world ran.opened.follows.held (seen_with words after) ran.opened.follows.serial) ran.opened.ends ran.opened.follows.session) (sym ran.opened.status_is ∙ two) where
   by : (ends : SessionEnd)
       → Tells ends (begun ran.opened.entries ran.opened.state (seen_with words before))
-      (world ran.opened.follows.held (seen_with words after) ran.opened.follows.serial) → status_of ends ≡ 2
+      (session_world ran.opened.follows.held (seen_with words after) ran.opened.follows.serial) → status_of ends ≡ 2
       → after.source.ended ≡ true
   by end.Cut tells is = tells
   by end.Ended tells is = let none : ⊥ = omega (arith, is) in absurd none
@@ -158,10 +158,10 @@ pub top_read_fault : (words : List (List ℕ)) (handed : ℕ) (before after : Ou
     → Runs words handed before after status → status ≡ 4 → Rose before.source.failures after.source.failures
 top_read_fault words handed before after status (inr refused) four =
     no_start refused.why 4 (sym refused.status_is ∙ four) (omega arith)
-top_read_fault words handed before after status (inl ran) four = by ran.opened.ends (session_tells (boot_with words handed) (pace_of words) (begun ran.opened.entries ran.opened.state (seen_with words before)) (world ran.opened.follows.held (seen_with words after) ran.opened.follows.serial) ran.opened.ends ran.opened.follows.session) (sym ran.opened.status_is ∙ four) where
+top_read_fault words handed before after status (inl ran) four = by ran.opened.ends (session_tells (boot_with words handed) (pace_of words) (begun ran.opened.entries ran.opened.state (seen_with words before)) (session_world ran.opened.follows.held (seen_with words after) ran.opened.follows.serial) ran.opened.ends ran.opened.follows.session) (sym ran.opened.status_is ∙ four) where
   by : (ends : SessionEnd)
       → Tells ends (begun ran.opened.entries ran.opened.state (seen_with words before))
-      (world ran.opened.follows.held (seen_with words after) ran.opened.follows.serial) → status_of ends ≡ 4
+      (session_world ran.opened.follows.held (seen_with words after) ran.opened.follows.serial) → status_of ends ≡ 4
       → Rose before.source.failures after.source.failures
   by end.ReadFault tells is = tells
   by end.Ended tells is = let none : ⊥ = omega (arith, is) in absurd none
@@ -176,10 +176,10 @@ pub top_write_fault : (words : List (List ℕ)) (handed : ℕ) (before after : O
     → Runs words handed before after status → status ≡ 5 → Rose before.sink.failures after.sink.failures
 top_write_fault words handed before after status (inr refused) five =
     no_start refused.why 5 (sym refused.status_is ∙ five) (omega arith)
-top_write_fault words handed before after status (inl ran) five = by ran.opened.ends (session_tells (boot_with words handed) (pace_of words) (begun ran.opened.entries ran.opened.state (seen_with words before)) (world ran.opened.follows.held (seen_with words after) ran.opened.follows.serial) ran.opened.ends ran.opened.follows.session) (sym ran.opened.status_is ∙ five) where
+top_write_fault words handed before after status (inl ran) five = by ran.opened.ends (session_tells (boot_with words handed) (pace_of words) (begun ran.opened.entries ran.opened.state (seen_with words before)) (session_world ran.opened.follows.held (seen_with words after) ran.opened.follows.serial) ran.opened.ends ran.opened.follows.session) (sym ran.opened.status_is ∙ five) where
   by : (ends : SessionEnd)
       → Tells ends (begun ran.opened.entries ran.opened.state (seen_with words before))
-      (world ran.opened.follows.held (seen_with words after) ran.opened.follows.serial) → status_of ends ≡ 5
+      (session_world ran.opened.follows.held (seen_with words after) ran.opened.follows.serial) → status_of ends ≡ 5
       → Rose before.sink.failures after.sink.failures
   by end.WriteFault tells is = tells
   by end.Ended tells is = let none : ⊥ = omega (arith, is) in absurd none
@@ -277,8 +277,8 @@ tells_same (Some es) entries opening are is = ap opening_of are ∙ is
 
 -- what the entries of a keeper open to, where it tells them, is what they were found to open to
 pub tells_opening : (opening : Opening) (keeper keeper' : Store) → OpensToNone opening keeper keeper'
-    → IfSome keeper.told (λ es. opening_of es ≡ opening)
-tells_opening opening keeper keeper' h = tells_same keeper.told h.entries opening h.told h.opens
+    → IfSome keeper.contents (λ es. opening_of es ≡ opening)
+tells_opening opening keeper keeper' h = tells_same keeper.contents h.entries opening h.contents h.opens
 
 pub tells_refused : (told : Option (List Entry)) (opening : Opening) → is_refused opening ≡ true
     → IfSome told (λ es. opening_of es ≡ opening) → IfSome told (λ es. is_refused (opening_of es) ≡ true)
@@ -289,18 +289,18 @@ tells_refused (Some es) opening refused is = ap is_refused is ∙ refused
 pub top_unopened : (words : List (List ℕ)) (handed : ℕ) (before after : Outside) (status : ℕ)
     → Runs words handed before after status → status ≡ 7
     → (is_run words ≡ true) × (after.keeper ≡ after_calls 1 before.keeper)
-    × IfSome before.keeper.told (λ entries. is_refused (opening_of entries) ≡ true)
+    × IfSome before.keeper.contents (λ entries. is_refused (opening_of entries) ≡ true)
 top_unopened words handed before after status (inl ran) seven =
     not_of_session ran.opened.ends 7 (sym ran.opened.status_is ∙ seven) (omega arith) seven≢nine seven≢ten
 top_unopened words handed before after status (inr refused) seven =
     by refused.why refused.cause (sym refused.status_is ∙ seven) where
       by : (why : StartFault) → HasCauseToRefuse why words before.keeper after.keeper → start_status why ≡ 7
           → (is_run words ≡ true) × (after.keeper ≡ after_calls 1 before.keeper)
-          × IfSome before.keeper.told (λ entries. is_refused (opening_of entries) ≡ true)
+          × IfSome before.keeper.contents (λ entries. is_refused (opening_of entries) ≡ true)
       by start.Unopened cause is = (
         cause.0,
         cause.1.2.after,
-        tells_refused before.keeper.told cause.1.0 cause.1.1 (tells_opening cause.1.0 before.keeper after.keeper cause.1.2),
+        tells_refused before.keeper.contents cause.1.0 cause.1.1 (tells_opening cause.1.0 before.keeper after.keeper cause.1.2),
       )
       by start.Words cause is = let none : ⊥ = omega (arith, is) in absurd none
       by start.KeeperFailed cause is = let none : ⊥ = omega (arith, is) in absurd none
@@ -328,14 +328,14 @@ ran_text words handed before after status r text messages ending known splits = 
     (seen_with words after)) (sym r.opened.status_is) (by r.opened.ends r.opened.follows.session) where
       does : (ends : SessionEnd)
           → Session (boot_with words handed) (pace_of words) (begun r.opened.entries r.opened.state (seen_with words before))
-          (world r.opened.follows.held (seen_with words after) r.opened.follows.serial) ends → IsSettled ends
+          (session_world r.opened.follows.held (seen_with words after) r.opened.follows.serial) ends → IsSettled ends
           → RunsText (boot_with words handed) (pace_of words) messages ending (status_of ends) (seen_with words before)
           (seen_with words after)
       does ends s settled = session_text (boot_with words handed) (pace_of words) (seen_with words before) (seen_with words after) status r.opened ends text messages ending s known splits settled
 
       by : (ends : SessionEnd)
           → Session (boot_with words handed) (pace_of words) (begun r.opened.entries r.opened.state (seen_with words before))
-          (world r.opened.follows.held (seen_with words after) r.opened.follows.serial) ends
+          (session_world r.opened.follows.held (seen_with words after) r.opened.follows.serial) ends
           → (is_fault (status_of ends) ≡ true)
           ⊎ RunsText (boot_with words handed) (pace_of words) messages ending (status_of ends) (seen_with words before)
           (seen_with words after)
@@ -389,13 +389,13 @@ ran_complete words handed before after status r text messages known splits few r
     subst (λ n. (n ≡ 0) ⊎ (n ≡ 9)) (sym r.opened.status_is) (by r.opened.ends r.opened.follows.session) where
       settled : (ends : SessionEnd)
           → Session (boot_with words handed) (pace_of words) (begun r.opened.entries r.opened.state (seen_with words before))
-          (world r.opened.follows.held (seen_with words after) r.opened.follows.serial) ends → IsSettled ends
+          (session_world r.opened.follows.held (seen_with words after) r.opened.follows.serial) ends → IsSettled ends
           → (status_of ends ≡ 0) ⊎ (status_of ends ≡ 9)
       settled ends s is = inl ((session_text (boot_with words handed) (pace_of words) (seen_with words before) (seen_with words after) status r.opened ends text messages ended s known splits is).status_is ∙ due_whole messages few)
 
       by : (ends : SessionEnd)
           → Session (boot_with words handed) (pace_of words) (begun r.opened.entries r.opened.state (seen_with words before))
-          (world r.opened.follows.held (seen_with words after) r.opened.follows.serial) ends
+          (session_world r.opened.follows.held (seen_with words after) r.opened.follows.serial) ends
           → (status_of ends ≡ 0) ⊎ (status_of ends ≡ 9)
       by end.Ended s = inl refl
       by end.Cut s = settled end.Cut s tt
@@ -404,16 +404,16 @@ ran_complete words handed before after status r text messages known splits few r
       by end.NoMemory s = inr refl
       by end.ReadFault s = absurd (reads
           (session_tells (boot_with words handed) (pace_of words) (begun r.opened.entries r.opened.state (seen_with words before))
-          (world r.opened.follows.held (seen_with words after) r.opened.follows.serial) end.ReadFault s))
+          (session_world r.opened.follows.held (seen_with words after) r.opened.follows.serial) end.ReadFault s))
       by end.WriteFault s = absurd (writes
           (session_tells (boot_with words handed) (pace_of words) (begun r.opened.entries r.opened.state (seen_with words before))
-          (world r.opened.follows.held (seen_with words after) r.opened.follows.serial) end.WriteFault s))
+          (session_world r.opened.follows.held (seen_with words after) r.opened.follows.serial) end.WriteFault s))
 
 -- the same of any run
 pub top_complete : (words : List (List ℕ)) (handed : ℕ) (before after : Outside) (status : ℕ)
     (known : Option (List ℕ)) → Runs words handed before after status → before.source.left ≡ known
     → IfSome known (λ text. (messages : List Request) → Splits text messages ended → length messages < most_requests
-    → (entries : List Entry) (s : State) → is_run words ≡ true → before.keeper.told ≡ Some entries
+    → (entries : List Entry) (s : State) → is_run words ≡ true → before.keeper.contents ≡ Some entries
     → opening_of entries ≡ opened s
     → ¬ (Rose before.source.failures after.source.failures) → ¬ (Rose before.sink.failures after.sink.failures)
     → ¬ (Rose before.keeper.failures after.keeper.failures) → (status ≡ 0) ⊎ (status ≡ 9))
@@ -425,7 +425,7 @@ top_complete words handed before after status (Some text) (inr refused) is =
     λ messages splits few entries s read told opens reads writes keeps.
     by refused.why refused.cause refused.status_is read entries s told opens keeps where
       by : (why : StartFault) → HasCauseToRefuse why words before.keeper after.keeper → status ≡ start_status why
-          → is_run words ≡ true → (entries : List Entry) (s : State) → before.keeper.told ≡ Some entries
+          → is_run words ≡ true → (entries : List Entry) (s : State) → before.keeper.contents ≡ Some entries
           → opening_of entries ≡ opened s → ¬ (Rose before.keeper.failures after.keeper.failures)
           → (status ≡ 0) ⊎ (status ≡ 9)
       by start.Words cause is read entries s told opens keeps = absurd (false≢true (sym (not_read-no_run words cause.0) ∙ read))
@@ -439,14 +439,14 @@ top_complete words handed before after status (Some text) (inr refused) is =
 
 -- a run over entries that open to no rows ends with the status that says so, or is refused memory, and writes nothing
 pub top_refused : (words : List (List ℕ)) (handed : ℕ) (before after : Outside) (status : ℕ)
-    (known : Option (List Entry)) → Runs words handed before after status → before.keeper.told ≡ known
+    (known : Option (List Entry)) → Runs words handed before after status → before.keeper.contents ≡ known
     → IfSome known (λ entries. is_refused (opening_of entries) ≡ true → is_run words ≡ true
     → ¬ (Rose before.keeper.failures after.keeper.failures)
     → (after.sink.held ≡ before.sink.held) × ((status ≡ 7) ⊎ (status ≡ 9)))
 top_refused words handed before after status None done is = tt
 top_refused words handed before after status (Some entries) (inl ran) is = λ none read keeps.
     let are : entries ≡ ran.opened.entries =
-    subst (λ known. IfSome known (λ es. es ≡ ran.opened.entries)) is ran.opened.told in
+    subst (λ known. IfSome known (λ es. es ≡ ran.opened.entries)) is ran.opened.contents in
     absurd (false≢true (sym (ap is_refused (ap opening_of are ∙ ran.opened.opens)) ∙ none))
 top_refused words handed before after status (Some entries) (inr refused) is = λ none read keeps.
     (ap (λ sink. sink.held) refused.sink, by refused.why refused.cause refused.status_is read keeps) where

@@ -6,25 +6,25 @@ use Rattle.http_front.specs.declared.read.Got.TheVariants as got
 use Rattle.rest_answers.proofs.Printing.{takes_memory, text_is}
 use Rattle.rest_answers.specs.Links.{BreaksOff, Takes}
 use Rattle.rest_answers.specs.Texts.{IsUnprinted, printed, text_for}
-use Rattle.rest_answers.specs.declared.answers.Answered.{Answered}
+use Rattle.rest_answers.specs.declared.answers.PrintedReply.{PrintedReply}
 use Rattle.serial_run.specs.Answers.{Answers}
-use Rattle.serial_steps.specs.Steps.{Site, Step}
+use Rattle.serial_steps.specs.Steps.{SerialWorld, Step}
 use Rattle.command_words.specs.declared.run_words.Pace.{Pace}
 use Rattle.serial_run.specs.Exchanges.{Comes, Exchange, IsPaced}
 use Rattle.serial_run.specs.declared.session.SessionEnd.{SessionEnd}
 use Rattle.serial_run.specs.declared.session.SessionEnd.TheVariants as end
 use Rattle.serial_run.specs.declared.session.Turn.{Turn}
 use Rattle.serial_run.specs.declared.session.Turn.TheVariants as turn
-use Rattle.serial_run.specs.Worlds.{World}
+use Rattle.serial_run.specs.Worlds.{SessionWorld}
 use Rattle.serial_run.specs.Sessions.{Asks, CarriesOut, GoesOn, KeepsRows, RefusesPlace, Serves, Stops, Turns}
 use Rattle.serial_run.specs.Sessions.{WritesAnswer}
 
 -- A turn that takes the next request and has it answered goes on after its reply and the steps of the pace, or ends
 -- after them, or stops at a failed write, or where memory for the reply was refused.
-pub turn_answers : (boot : ℕ) (pace : Pace) (w w' : World) (v : Site) (request : Request) (result : Answered)
+pub turn_answers : (boot : ℕ) (pace : Pace) (w w' : SessionWorld) (v : SerialWorld) (request : Request) (result : PrintedReply)
     (comes : Turn)
-    → Asks w w' (got.Request request) → Answers boot w.site v request result
-    → WritesAnswer comes result request.last w.sink w'.sink → GoesOn pace comes v w'.site → Turns boot pace comes w w'
+    → Asks w w' (got.Request request) → Answers boot w.serial_world v request result
+    → WritesAnswer comes result request.last w.sink w'.sink → GoesOn pace comes v w'.serial_world → Turns boot pace comes w w'
 turn_answers boot pace w w' v request result comes asks answers writes goes = by comes writes goes where
   e : List Step → Exchange
   e steps = record {
@@ -39,7 +39,7 @@ turn_answers boot pace w w' v request result comes asks answers writes goes = by
   text : ¬ IsUnprinted result → text_for result request.last ≡ printed answers.reply boot request.last
   text has = text_is result answers.reply boot request.last answers.text has
 
-  serves : (steps : List Step) → IsPaced pace v steps w'.site → ¬ IsUnprinted result
+  serves : (steps : List Step) → IsPaced pace v steps w'.serial_world → ¬ IsUnprinted result
       → Takes w.sink w'.sink (text_for result request.last) → Serves boot pace w w' (e steps)
   serves steps paced has takes = record {
     asked = asks;
@@ -47,14 +47,14 @@ turn_answers boot pace w w' v request result comes asks answers writes goes = by
     replied = subst (Takes w.sink w'.sink) (text has) takes;
   }
 
-  carried : w'.site ≡ v → CarriesOut boot w w' (e [])
+  carried : w'.serial_world ≡ v → CarriesOut boot w w' (e [])
   carried same = record {
     asked = asks;
-    comes = subst (λ s. Comes boot w.site (e []) s) (sym same) answers.reaches.comes;
+    comes = subst (λ s. Comes boot w.serial_world (e []) s) (sym same) answers.reaches.comes;
     still = refl;
   }
 
-  by : (comes : Turn) → WritesAnswer comes result request.last w.sink w'.sink → GoesOn pace comes v w'.site
+  by : (comes : Turn) → WritesAnswer comes result request.last w.sink w'.sink → GoesOn pace comes v w'.serial_world
       → Turns boot pace comes w w'
   by turn.GoOn writes goes = (e goes.0, serves goes.0 goes.1 writes.1 writes.2, writes.0)
   by turn.Final writes goes = (e goes.0, serves goes.0 goes.1 writes.1 writes.2, writes.0)
@@ -76,7 +76,7 @@ turn_answers boot pace w w' v request result comes asks answers writes goes = by
   by (turn.Stop end.Spent) writes same = absurd writes
 
 -- a turn that refuses a malformed place
-pub turn_refuses : (boot : ℕ) (pace : Pace) (w w' : World) (fault : HeadFault) (ends : SessionEnd)
+pub turn_refuses : (boot : ℕ) (pace : Pace) (w w' : SessionWorld) (fault : HeadFault) (ends : SessionEnd)
     → Asks w w' (got.Malformed fault) → KeepsRows w w'
     → RefusesPlace fault ends w.sink w'.sink → Turns boot pace (turn.Stop ends) w w'
 turn_refuses boot pace w w' fault ends asks rows refuses = by ends refuses where

@@ -20,7 +20,7 @@ use Rattle.serial_run.specs.Sessions.{Session, Stops, CountsAt, StopsAfterFinal,
 use Rattle.serial_run.proofs.Served.{together}
 use Rattle.serial_run.specs.Inputs.{requests_of, answered, end_at, end_after, end_due}
 use Rattle.rest_answers.specs.Lasts.{has_last, through_last}
-use Rattle.serial_run.specs.Worlds.{World, input}
+use Rattle.serial_run.specs.Worlds.{SessionWorld, input}
 
 -- requests that go on are all before the first last one
 through_last_going : (exchanges : List Exchange) (more : List Request) → AllGoOn exchanges
@@ -156,7 +156,7 @@ due_at_end rest exchanges messages ending other ends far stands is going few =
     (due_going exchanges ending going few ∙ ap end_at none.1 ∙ is)
 
 -- a session that settled did what its input is due
-pub session_due : (boot : ℕ) (pace : Pace) (w w' : World) (ends : SessionEnd) (text : List ℕ) (messages : List Request)
+pub session_due : (boot : ℕ) (pace : Pace) (w w' : SessionWorld) (ends : SessionEnd) (text : List ℕ) (messages : List Request)
     (ending : Ending) (s : Session boot pace w w' ends) → input w ≡ Some text → Splits text messages ending
     → IsSettled ends → IsDue messages ending ends s.exchanges
 session_due boot pace w w' ends text messages ending s is splits settled = by ends s.counted s.stops settled where

@@ -16,9 +16,9 @@ use Rattle.start_faults.specs.core_rows.specs.Opening.{OpensTo, Refuses}
 use Rattle.start_faults.specs.core_rows.specs.declared.opening.OpenFault.{OpenFault}
 use Rattle.serial_steps.specs.core_turns.specs.Turns.{IsTurn}
 use Rattle.rest_routes.specs.Commands.{command_of}
-use Rattle.serial_steps.specs.Steps.{Serial, Site}
+use Rattle.serial_steps.specs.Steps.{Serial, SerialWorld}
 use Rattle.rest_answers.specs.Texts.{HasText}
-use Rattle.rest_answers.specs.declared.answers.Answered.{Answered}
+use Rattle.rest_answers.specs.declared.answers.PrintedReply.{PrintedReply}
 use Rattle.serial_run.specs.Exchanges.{IsAnswered, Held}
 
 -- ---- opening
@@ -44,14 +44,15 @@ pub record Shows (project : List ℕ) (op : ℕ) (serial : Serial) (store : Stor
   pub early : moment < moment_limit
 
 -- What was asked for came to a reply.
-pub record Reaches (site : Site) (asks : Result Command Refusal) (reply : Reply) (later : Site) : Type 0 where
+pub record Reaches (world : SerialWorld) (asks : Result Command Refusal) (reply : Reply) (later : SerialWorld)
+    : Type 0 where
   pub moment : Option ℕ
   pub outcome : Outcome
   pub held : Option Held
-  pub comes : IsAnswered site asks moment outcome held reply later
+  pub comes : IsAnswered world asks moment outcome held reply later
 
 -- One request was answered: it came to a reply, and what is to be written is that reply.
-pub record Answers (boot : ℕ) (site later : Site) (request : Request) (result : Answered) : Type 0 where
+pub record Answers (boot : ℕ) (world later : SerialWorld) (request : Request) (result : PrintedReply) : Type 0 where
   pub reply : Reply
-  pub reaches : Reaches site (command_of request boot) reply later
+  pub reaches : Reaches world (command_of request boot) reply later
   pub text : HasText result reply boot request.last

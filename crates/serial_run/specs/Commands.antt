@@ -12,7 +12,7 @@ use Rattle.row_machine.specs.opening.Records.{records_of}
 use Rattle.start_faults.specs.core_rows.specs.Opening.{OpensTo, Refuses}
 use Rattle.start_faults.specs.core_rows.specs.declared.opening.OpenFault.{OpenFault}
 use Rattle.start_faults.specs.core_rows.specs.declared.opening.OpenFault.TheVariants as fault
-use Rattle.serial_steps.specs.Steps.{Hosted, Serial, Site, serial, site}
+use Rattle.serial_steps.specs.Steps.{Hosted, Serial, SerialWorld, serial, serial_world}
 use Rattle.command_words.specs.declared.run_words.Pace.TheVariants as pace
 use Rattle.serial_run.specs.Exchanges.{Exchange, LeadTo, moments_of, printed_replies}
 use Rattle.serial_run.specs.Exchanges.{host_failures_of, keeper_failures_of}
@@ -69,7 +69,7 @@ drilled_text replies state = summary replies ++ report_of state
 
 -- Requests were answered from an empty buffer on, over a source that gives them all and a sink that had taken
 -- nothing, and the worker made all of its steps after each. The replies are what the sink took.
-pub record Answers (boot : ℕ) (stream : List ℕ) (site later : Site) (replies : List ℕ)
+pub record Answers (boot : ℕ) (stream : List ℕ) (world later : SerialWorld) (replies : List ℕ)
     (ends : SessionEnd) : Type 0 where
   pub source : Inlet
   pub known : source.left ≡ Some stream
@@ -79,12 +79,12 @@ pub record Answers (boot : ℕ) (stream : List ℕ) (site later : Site) (replies
   pub source' : Inlet
   pub failures' : ℕ
   pub session : Session boot pace.All
-      (record { held = []; source = source; sink = sink; site = site })
+      (record { held = []; source = source; sink = sink; serial_world = world })
       (record {
         held = held;
         source = source';
         sink = record { held = Some replies; failures = failures' };
-        site = later;
+        serial_world = later;
       })
       ends
 
@@ -94,16 +94,17 @@ TellsDrill end.Ended status text sink sink' = Tells status text sink sink'
 TellsDrill other status text sink sink' = (status ≡ 9) × (sink' ≡ sink)
 
 -- made requests were answered from here on, and what they came to was told
-pub record Drilled (boot : ℕ) (stream : List ℕ) (status : ℕ) (start : Site) (sink : Outlet) (store' : Store)
+pub record Drilled (boot : ℕ) (stream : List ℕ) (status : ℕ) (start : SerialWorld) (sink : Outlet) (store' : Store)
     (host' : Hosted) (clock' : Readings) (sink' : Outlet) : Type 0 where
   pub last : Serial
   pub replies : List ℕ
   pub ends : SessionEnd
-  pub answers : Answers boot stream start (site last store' host' clock') replies ends
+  pub answers : Answers boot stream start (serial_world last store' host' clock') replies ends
   pub tells : TellsDrill ends status (drilled_text replies last.state) sink sink'
 
 -- memory was refused before the first request
-pub record OutOfMemory (status : ℕ) (start : Site) (sink : Outlet) (store' : Store) (host' : Hosted) (clock' : Readings)
+pub record OutOfMemory (status : ℕ) (start : SerialWorld) (sink : Outlet) (store' : Store) (host' : Hosted)
+    (clock' : Readings)
     (sink' : Outlet) : Type 0 where
   pub status_is : status ≡ 9
   pub store : store' ≡ start.store
@@ -111,7 +112,7 @@ pub record OutOfMemory (status : ℕ) (start : Site) (sink : Outlet) (store' : S
   pub clock : clock' ≡ start.clock
   pub silent : sink' ≡ sink
 
-abbrev pub DrillsOver : ℕ → List ℕ → ℕ → Site → Outlet → Store → Hosted → Readings → Outlet → Type 0
+abbrev pub DrillsOver : ℕ → List ℕ → ℕ → SerialWorld → Outlet → Store → Hosted → Readings → Outlet → Type 0
 DrillsOver boot stream status start sink store' host' clock' sink' =
     Drilled boot stream status start sink store' host' clock' sink'
     ⊎ OutOfMemory status start sink store' host' clock' sink'
@@ -122,7 +123,8 @@ pub record OpenedDrill (boot : ℕ) (stream : List ℕ) (status : ℕ) (store : 
   pub state : State
   pub opened : Store
   pub opens : OpensTo state store opened
-  pub over : DrillsOver boot stream status (site (serial state None) opened host clock) sink store' host' clock' sink'
+  pub over : DrillsOver boot stream status
+      (serial_world (serial state None) opened host clock) sink store' host' clock' sink'
 
 -- the rows were not opened: no call of the host or of the clock was made either
 pub record UnopenedDrill (status : ℕ) (store : Store) (host : Hosted) (clock : Readings) (sink : Outlet)
@@ -149,11 +151,11 @@ pub record DrillsText (boot : ℕ) (messages : List Request) (status : ℕ) (sto
   pub exchanges : List Exchange
   pub last : Serial
   pub requests_are : requests_of exchanges ≡ answered messages
-  pub leads : LeadTo boot pace.All (site (serial state None) opened host clock) exchanges
-      (site last store' host' clock')
+  pub leads : LeadTo boot pace.All (serial_world (serial state None) opened host clock) exchanges
+      (serial_world last store' host' clock')
   pub moments : Reads clock (moments_of exchanges) clock'
   pub early : All (λ moment. moment < moment_limit) (moments_of exchanges)
   pub written : Tells status (drilled_text (printed_replies boot exchanges) last.state) sink sink'
-  pub kept : store'.told ≡ option_map (λ _. records_of last.state) store.told
+  pub kept : store'.contents ≡ option_map (λ _. records_of last.state) store.contents
   pub keeper_failed : RoseBy (keeper_failures_of exchanges) store.failures store'.failures
   pub host_failed : RoseBy (host_failures_of exchanges) host.failures host'.failures

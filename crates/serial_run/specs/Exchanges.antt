@@ -21,7 +21,7 @@ use Rattle.row_machine.specs.machine.Accept.{After, and_then}
 use Rattle.row_machine.specs.machine.Step.{Outcome, well, keeper_failed, no_memory, step}
 use Rattle.start_faults.specs.core_reports.specs.Stores.{IsCaused, KeepsRecords, Stores}
 use Rattle.start_faults.specs.core_rows.specs.Asked.{answered, changes_of}
-use Rattle.serial_steps.specs.Steps.{Site, Step, StepsTo, Finishes, WaitsFor, most_steps}
+use Rattle.serial_steps.specs.Steps.{SerialWorld, Step, StepsTo, Finishes, WaitsFor, most_steps}
 use Rattle.serial_steps.specs.Counts.{moments_in, failed_commits, keeper_failures_in, host_failures_in}
 use Rattle.rest_answers.specs.Asked.{showing}
 use Rattle.rest_answers.specs.Texts.{printed}
@@ -84,63 +84,66 @@ pub record AsksAt (moment : Option ℕ) (told told' : Readings) : Type 0 where
 -- What was asked for at one moment was answered so, with an outcome that the keeper's count bears out. Its changes went
 -- to the store in one call, and without changes the keeper was not called. The call in hand and the host are as before.
 -- Entries that were the records of the rows are so afterwards.
-pub record Carries (site : Site) (asked : Result Command Refusal) (moment : Option ℕ) (outcome : Outcome)
-    (answer : Answer) (later : Site)
+pub record Carries (world : SerialWorld) (asked : Result Command Refusal) (moment : Option ℕ) (outcome : Outcome)
+    (answer : Answer) (later : SerialWorld)
     : Type 0 where
-  pub is : carried_out site.serial.state moment outcome asked ≡ Some (and_then answer later.serial.state)
-  pub stored : Stores (asked_changes site.serial.state moment asked) outcome site.store later.store
-  pub caused : IsCaused outcome site.store.failures later.store.failures
-  pub kept : KeepsRecords site.store.told site.serial.state later.store.told later.serial.state
-  pub hand : later.serial.hand ≡ site.serial.hand
-  pub host : later.host ≡ site.host
-  pub clock : AsksAt moment site.clock later.clock
+  pub is : carried_out world.serial.state moment outcome asked ≡ Some (and_then answer later.serial.state)
+  pub stored : Stores (asked_changes world.serial.state moment asked) outcome world.store later.store
+  pub caused : IsCaused outcome world.store.failures later.store.failures
+  pub kept : KeepsRecords world.store.contents world.serial.state later.store.contents later.serial.state
+  pub hand : later.serial.hand ≡ world.serial.hand
+  pub host : later.host ≡ world.host
+  pub clock : AsksAt moment world.clock later.clock
 
 -- ---- one request comes to its reply
 
 -- The command was a wait for an operation that was live, so its answer was held back; steps were made until the
 -- operation had ended; and then it was asked for in the same project, and was answered by this reply.
-pub record HeldBack (site : Site) (asked : Result Command Refusal) (moment : Option ℕ) (outcome : Outcome) (held : Held)
+pub record HeldBack (world : SerialWorld) (asked : Result Command Refusal) (moment : Option ℕ) (outcome : Outcome)
+    (held : Held)
     (reply : Reply)
-    (later : Site) : Type 0 where
+    (later : SerialWorld) : Type 0 where
   pub command : Command
   pub op : ℕ
-  pub waiting : Site
-  pub ended : Site
+  pub waiting : SerialWorld
+  pub ended : SerialWorld
   pub asks : asked ≡ Ok command
-  pub holds : Carries site asked moment outcome (answer.Hold op) waiting
+  pub holds : Carries world asked moment outcome (answer.Hold op) waiting
   pub waits : WaitsFor op waiting held.steps ended
   pub few : length held.steps ≤ most_steps
   pub shows : Carries ended (Ok (showing op command)) (Some held.moment) held.outcome (answered reply) later
 
 -- What was asked for was answered by this reply, at once or after its answer was held back.
-abbrev pub IsAnswered : Site → Result Command Refusal → Option ℕ → Outcome → Option Held → Reply → Site → Type 0
-IsAnswered site asked moment outcome None reply later = Carries site asked moment outcome (answered reply) later
-IsAnswered site asked moment outcome (Some held) reply later = HeldBack site asked moment outcome held reply later
+abbrev pub IsAnswered : SerialWorld → Result Command Refusal → Option ℕ → Outcome → Option Held → Reply → SerialWorld
+    → Type 0
+IsAnswered world asked moment outcome None reply later = Carries world asked moment outcome (answered reply) later
+IsAnswered world asked moment outcome (Some held) reply later = HeldBack world asked moment outcome held reply later
 
 -- a request came to its reply; the daemon's boot word is that of the ids of operations
-abbrev pub Comes : ℕ → Site → Exchange → Site → Type 0
-Comes boot site exchange later = IsAnswered site (command_of exchange.request boot)
+abbrev pub Comes : ℕ → SerialWorld → Exchange → SerialWorld → Type 0
+Comes boot world exchange later = IsAnswered world (command_of exchange.request boot)
     exchange.moment exchange.outcome exchange.held exchange.reply later
 
 -- ---- and steps follow
 
 -- the steps that follow a reply: so many, or all until nothing is live
-abbrev pub IsPaced : Pace → Site → List Step → Site → Type 0
-IsPaced (pace.Steps count) site steps later = StepsTo site steps later × (length steps ≡ count)
-IsPaced pace.All site steps later = Finishes site steps later × (length steps ≤ most_steps)
+abbrev pub IsPaced : Pace → SerialWorld → List Step → SerialWorld → Type 0
+IsPaced (pace.Steps count) world steps later = StepsTo world steps later × (length steps ≡ count)
+IsPaced pace.All world steps later = Finishes world steps later × (length steps ≤ most_steps)
 
 -- a request came to its reply, and the steps of the pace followed
-pub record Leads (boot : ℕ) (follows : Pace) (site : Site) (exchange : Exchange) (later : Site) : Type 0 where
-  pub replied : Site
-  pub comes : Comes boot site exchange replied
+pub record Leads (boot : ℕ) (follows : Pace) (world : SerialWorld) (exchange : Exchange) (later : SerialWorld)
+    : Type 0 where
+  pub replied : SerialWorld
+  pub comes : Comes boot world exchange replied
   pub paced : IsPaced follows replied exchange.steps later
 
 -- Exchanges lead from one moment of the server to another: each request comes to its reply, and with the steps after it
 -- to the moment at which the next one is taken.
-abbrev pub LeadTo : ℕ → Pace → Site → List Exchange → Site → Type 0
-LeadTo boot follows site [] later = site ≡ later
-LeadTo boot follows site (exchange ∷ more) later =
-    (next : Site) × Leads boot follows site exchange next × LeadTo boot follows next more later
+abbrev pub LeadTo : ℕ → Pace → SerialWorld → List Exchange → SerialWorld → Type 0
+LeadTo boot follows world [] later = world ≡ later
+LeadTo boot follows world (exchange ∷ more) later =
+    (next : SerialWorld) × Leads boot follows world exchange next × LeadTo boot follows next more later
 
 -- ---- what they read, and what failed in them
 

@@ -6,7 +6,8 @@ use Rattle.size_values.specs.declared.entry.Entry.{Entry}
 use Rattle.record_keeper.specs.Store.{Store}
 use Rattle.row_machine.specs.machine.State.{State}
 use Rattle.row_machine.specs.opening.Opening.{Opening, opened, opening_of}
-use Rattle.start_faults.specs.core_rows.specs.Opening.{AreTold, OpensTo, OpensToNone, Refuses, is_refused, opened_store}
+use Rattle.start_faults.specs.core_rows.specs.Opening.{AreContents, OpensTo, OpensToNone, Refuses}
+use Rattle.start_faults.specs.core_rows.specs.Opening.{is_refused, opened_store}
 use Rattle.start_faults.specs.core_rows.specs.declared.opening.OpenFault.{OpenFault}
 use Rattle.start_faults.specs.core_rows.specs.declared.opening.OpenFault.TheVariants as fault
 use Rattle.serial_steps.specs.Steps.{Serial, serial}
@@ -19,7 +20,7 @@ use Rattle.serial_run.specs.declared.session.SessionEnd.{SessionEnd}
 use Rattle.serial_run.specs.declared.session.SessionEnd.TheVariants as end
 use Rattle.serial_run.specs.Inputs.{status_of}
 use Rattle.serial_run.specs.Sessions.{Session}
-use Rattle.serial_run.specs.Worlds.{Outside, World, world}
+use Rattle.serial_run.specs.Worlds.{Outside, SessionWorld, session_world}
 
 -- the readings of the clock of a run: one that stands still at the moment that the words say, or the one that is
 -- handed in
@@ -42,22 +43,23 @@ boot_with words handed = unwrap_or (boot_of words) handed
 
 -- A session from this world on, with the outside seen so at its end, and rows that nobody sees. What is still to come
 -- is what its buffer holds, at most one head, one body and one piece, and what the source has left.
-pub record SessionFrom (boot : ℕ) (pace : Pace) (start : World) (after : Outside) (ends : SessionEnd) : Type 0 where
+pub record SessionFrom (boot : ℕ) (pace : Pace) (start : SessionWorld) (after : Outside) (ends : SessionEnd)
+    : Type 0 where
   pub held : List ℕ
   pub few : length held ≤ most_held
   pub serial : Serial
-  pub session : Session boot pace start (world held after serial) ends
+  pub session : Session boot pace start (session_world held after serial) ends
 
 -- what a session sees at its begin of an outside whose keeper had these entries, which open to this state: its rows,
 -- whose records the entries are now, and no call in hand
-abbrev pub begun : List Entry → State → Outside → World
+abbrev pub begun : List Entry → State → Outside → SessionWorld
 begun entries state before =
-    world [] (record before { keeper = opened_store entries state before.keeper }) (serial state None)
+    session_world [] (record before { keeper = opened_store entries state before.keeper }) (serial state None)
 
 -- the entries of the keeper were opened, and there was one session, from an empty buffer on
 pub record Opened (boot : ℕ) (pace : Pace) (before after : Outside) (status : ℕ) : Type 0 where
   pub entries : List Entry
-  pub told : AreTold entries before.keeper
+  pub contents : AreContents entries before.keeper
   pub state : State
   pub opens : opening_of entries ≡ opened state
   pub ends : SessionEnd

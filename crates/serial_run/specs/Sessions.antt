@@ -6,39 +6,39 @@ use Rattle.http_heads.specs.declared.request.HeadFault.{HeadFault}
 use Rattle.http_front.specs.declared.read.Got.{Got}
 use Rattle.http_front.specs.declared.read.Got.TheVariants as got
 use Rattle.records.specs.declared.replies.Reply.TheVariants as reply
-use Rattle.serial_steps.specs.Steps.{Site, Step}
+use Rattle.serial_steps.specs.Steps.{SerialWorld, Step}
 use Rattle.command_words.specs.declared.run_words.Pace.{Pace}
 use Rattle.rest_answers.specs.Links.{BreaksOff, Outlet, ReadsFrom, Takes}
 use Rattle.rest_answers.specs.Texts.{IsUnprinted, malformed_text, printed, text_for}
-use Rattle.rest_answers.specs.declared.answers.Answered.{Answered}
+use Rattle.rest_answers.specs.declared.answers.PrintedReply.{PrintedReply}
 use Rattle.serial_run.specs.Exchanges.{Comes, Exchange, IsPaced, Leads}
 use Rattle.serial_run.specs.declared.session.SessionEnd.{SessionEnd}
 use Rattle.serial_run.specs.declared.session.SessionEnd.TheVariants as end
 use Rattle.serial_run.specs.declared.session.Turn.{Turn}
 use Rattle.serial_run.specs.declared.session.Turn.TheVariants as turn
 use Rattle.serial_run.specs.Most.{most_requests}
-use Rattle.serial_run.specs.Worlds.{World}
+use Rattle.serial_run.specs.Worlds.{SessionWorld}
 
 -- ---- what one turn does to its parts
 
 -- One call of `read_request` between two worlds answered this of the bytes to come and of the bytes held.
-abbrev pub Asks : World → World → Got → Type 0
+abbrev pub Asks : SessionWorld → SessionWorld → Got → Type 0
 Asks world later answer = ReadsFrom world.held world.source answer later.held later.source
 
 -- the server is as before, and no call of the keeper, of the host or of the clock was made
-abbrev pub KeepsRows : World → World → Type 0
-KeepsRows world later = later.site ≡ world.site
+abbrev pub KeepsRows : SessionWorld → SessionWorld → Type 0
+KeepsRows world later = later.serial_world ≡ world.serial_world
 
 -- The next request was taken and came to its reply. No steps follow it yet.
-pub record CarriesOut (boot : ℕ) (world later : World) (exchange : Exchange) : Type 0 where
+pub record CarriesOut (boot : ℕ) (world later : SessionWorld) (exchange : Exchange) : Type 0 where
   pub asked : Asks world later (got.Request exchange.request)
-  pub comes : Comes boot world.site exchange later.site
+  pub comes : Comes boot world.serial_world exchange later.serial_world
   pub still : exchange.steps ≡ []
 
 -- The next request was taken and came to its reply, which was written whole, and the steps of the pace followed.
-pub record Serves (boot : ℕ) (pace : Pace) (world later : World) (exchange : Exchange) : Type 0 where
+pub record Serves (boot : ℕ) (pace : Pace) (world later : SessionWorld) (exchange : Exchange) : Type 0 where
   pub asked : Asks world later (got.Request exchange.request)
-  pub leads : Leads boot pace world.site exchange later.site
+  pub leads : Leads boot pace world.serial_world exchange later.serial_world
   pub replied : Takes world.sink later.sink (printed exchange.reply boot exchange.request.last)
 
 -- ---- stops
@@ -46,7 +46,7 @@ pub record Serves (boot : ℕ) (pace : Pace) (world later : World) (exchange : E
 -- What stands next where a session stops before another request was answered whole, and what was done of it: nothing
 -- after the end of the input and at a failed read; its reply at a malformed place; a part of a reply where a write
 -- failed; and where memory was refused, nothing is written, after a request was carried out or before.
-abbrev pub Stops : ℕ → SessionEnd → World → World → Type 0
+abbrev pub Stops : ℕ → SessionEnd → SessionWorld → SessionWorld → Type 0
 Stops boot end.Ended world later = Asks world later got.End × KeepsRows world later × (later.sink ≡ world.sink)
 Stops boot end.Cut world later =
     (count : ℕ) × Asks world later (got.Cut count) × KeepsRows world later × (later.sink ≡ world.sink)
@@ -67,7 +67,7 @@ Stops boot end.NoMemory world later =
     × (exchange.reply ≢ reply.NoMemory) × (later.sink ≡ world.sink))
 
 -- one turn: the next request was answered, or the session stops
-abbrev pub Turns : ℕ → Pace → Turn → World → World → Type 0
+abbrev pub Turns : ℕ → Pace → Turn → SessionWorld → SessionWorld → Type 0
 Turns boot pace turn.GoOn world later =
     (exchange : Exchange) × Serves boot pace world later exchange × (exchange.request.last ≡ false)
 Turns boot pace turn.Final world later =
@@ -77,10 +77,10 @@ Turns boot pace (turn.Stop ends) world later = Stops boot ends world later × (e
 -- ---- a session
 
 -- requests were answered one after the other
-abbrev pub ServesAll : ℕ → Pace → World → List Exchange → World → Type 0
+abbrev pub ServesAll : ℕ → Pace → SessionWorld → List Exchange → SessionWorld → Type 0
 ServesAll boot pace world [] later = world ≡ later
 ServesAll boot pace world (exchange ∷ more) later =
-    (next : World) × Serves boot pace world next exchange × ServesAll boot pace next more later
+    (next : SessionWorld) × Serves boot pace world next exchange × ServesAll boot pace next more later
 
 -- no request of these is the last one on its connection
 abbrev pub AllGoOn : List Exchange → Type 0
@@ -116,9 +116,9 @@ StopsAfterFinal end.NoMemory = ⊥
 
 -- A session from one world to a later one: the requests that it answered whole, the world after them, and how it
 -- stopped there. Either none of them was the last on its connection, or the final one alone was.
-pub record Session (boot : ℕ) (pace : Pace) (world later : World) (ends : SessionEnd) : Type 0 where
+pub record Session (boot : ℕ) (pace : Pace) (world later : SessionWorld) (ends : SessionEnd) : Type 0 where
   pub exchanges : List Exchange
-  pub reached : World
+  pub reached : SessionWorld
   pub serves : ServesAll boot pace world exchanges reached
   pub counted : CountsAt ends (length exchanges)
   pub stops : (AllGoOn exchanges × Stops boot ends reached later)
@@ -138,7 +138,7 @@ turn_after (Err error) last = turn.Stop end.WriteFault
 
 -- An answer was written whole and the turn goes on as its request says, or some first bytes of it and the write failed;
 -- or nothing was, since memory for it was refused.
-abbrev pub WritesAnswer : Turn → Answered → Bool → Outlet → Outlet → Type 0
+abbrev pub WritesAnswer : Turn → PrintedReply → Bool → Outlet → Outlet → Type 0
 WritesAnswer turn.GoOn answer last sink sink' =
     (last ≡ false) × ¬ IsUnprinted answer × Takes sink sink' (text_for answer last)
 WritesAnswer turn.Final answer last sink sink' =
@@ -149,10 +149,10 @@ WritesAnswer (turn.Stop end.NoMemory) answer last sink sink' = IsUnprinted answe
 WritesAnswer (turn.Stop other) answer last sink sink' = ⊥
 
 -- After an answer that was written whole the steps of the pace were made, and where the session stops none were.
-abbrev pub GoesOn : Pace → Turn → Site → Site → Type 0
-GoesOn pace turn.GoOn site later = (steps : List Step) × IsPaced pace site steps later
-GoesOn pace turn.Final site later = (steps : List Step) × IsPaced pace site steps later
-GoesOn pace (turn.Stop ends) site later = later ≡ site
+abbrev pub GoesOn : Pace → Turn → SerialWorld → SerialWorld → Type 0
+GoesOn pace turn.GoOn world later = (steps : List Step) × IsPaced pace world steps later
+GoesOn pace turn.Final world later = (steps : List Step) × IsPaced pace world steps later
+GoesOn pace (turn.Stop ends) world later = later ≡ world
 
 -- A malformed place was answered by its rule, or of that reply some first bytes were written, or memory was refused
 -- before it.

@@ -13,7 +13,7 @@ use Rattle.size_values.specs.declared.entry.Entry.{Entry}
 use Rattle.row_machine.specs.machine.State.{State}
 use Rattle.row_machine.specs.opening.Opening.{opened, opening_of}
 use Rattle.row_machine.specs.opening.Records.{records_of}
-use Rattle.start_faults.specs.core_rows.specs.Opening.{AreTold, opened_store}
+use Rattle.start_faults.specs.core_rows.specs.Opening.{AreContents, opened_store}
 use Rattle.serial_steps.specs.Steps.{Serial, serial}
 use Rattle.command_words.specs.declared.run_words.Pace.{Pace}
 use Rattle.serial_run.specs.Exchanges.{Exchange, LeadTo, moments_of, printed_replies}
@@ -34,7 +34,7 @@ pub record RunsText (boot : ℕ) (pace : Pace) (messages : List Request) (ending
     (before after : Outside)
     : Type 0 where
   pub entries : List Entry
-  pub told : AreTold entries before.keeper
+  pub contents : AreContents entries before.keeper
   pub state : State
   pub opens : opening_of entries ≡ opened state
   pub exchanges : List Exchange
@@ -48,7 +48,7 @@ pub record RunsText (boot : ℕ) (pace : Pace) (messages : List Request) (ending
   pub status_is : status ≡ (end_due messages ending).status
   pub written : Appends before.sink.held after.sink.held
       (printed_replies boot exchanges ++ (end_due messages ending).text)
-  pub kept : after.keeper.told ≡ option_map (λ _. records_of last.state) before.keeper.told
+  pub kept : after.keeper.contents ≡ option_map (λ _. records_of last.state) before.keeper.contents
   pub keeper_failed : RoseBy (keeper_failures_of exchanges) before.keeper.failures after.keeper.failures
   pub host_failed : RoseBy (host_failures_of exchanges) before.host.failures after.host.failures
 

@@ -4,14 +4,14 @@ ghost use Rattle.records.specs.Forms.{is_formed};
 ghost use Rattle.rest_routes.specs.Commands.{command_of};
 ghost use Rattle.rest_routes.specs.Known.{server_asked};
 ghost use Rattle.record_keeper.specs.Store.{Store};
-ghost use Rattle.serial_steps.specs.Steps.{Hosted, hosted, site};
+ghost use Rattle.serial_steps.specs.Steps.{Hosted, hosted, serial_world};
 ghost use Rattle.serial_run.specs.Answers.{Answers, Reaches, Shows};
 
 use host_model::Host;
 use http_front::{Clock, Request};
 use record_keeper::Keeper;
 use records::{Command, Reply, What};
-use rest_answers::{Answered, Asked, asked_of, reply_of, server_answer};
+use rest_answers::{PrintedReply, ReplyOrWait, reply_of, reply_or_wait_of, server_answer};
 use rest_routes::Router;
 use serial_steps::{SerialDaemon, server_is_told};
 use size_values::Text;
@@ -51,18 +51,18 @@ fn carry_out<R: Keeper, H: Host, C: Clock>(
     command: Command,
 ) -> Reply
     requires formed { is_formed command ≡ true }
-    ensures { Reaches (site daemon.old (R.store keeper.old) (hosted H.told H.failures host.old)
+    ensures { Reaches (serial_world daemon.old (R.store keeper.old) (hosted H.contents H.failures host.old)
         (C.readings clock.old))
         (Ok command) result
-        (site daemon.new (R.store keeper.new) (hosted H.told H.failures host.new)
+        (serial_world daemon.new (R.store keeper.new) (hosted H.contents H.failures host.new)
         (C.readings clock.new)) }
 {
     let answer = daemon.ask(alloc, keeper, &command, clock.now());
     let Command { project, what } = command;
     drop(what);
-    match asked_of(answer) {
-        Asked::Reply(reply) => reply,
-        Asked::Hold(number) => {
+    match reply_or_wait_of(answer) {
+        ReplyOrWait::Reply(reply) => reply,
+        ReplyOrWait::Hold(number) => {
             daemon.wait_for(alloc, keeper, host, clock, number);
             show_operation(alloc, daemon, keeper, clock, project, number)
         }
@@ -74,11 +74,12 @@ pub(crate) fn tell_of_server<C: Clock>(
     daemon: &SerialDaemon,
     clock: &mut C,
     request: &Request,
-) -> Answered
+) -> PrintedReply
     requires asked { (boot : ℕ) → command_of request.now boot ≡ Ok server_asked }
     requires stays { request.now.last ≡ false }
     ensures { (boot : ℕ) (store : Store) (host : Hosted) → Answers boot
-        (site daemon.now store host (C.readings clock.old)) (site daemon.now store host (C.readings clock.new))
+        (serial_world daemon.now store host (C.readings clock.old))
+        (serial_world daemon.now store host (C.readings clock.new))
         request.now result }
 {
     server_is_told();
@@ -97,10 +98,10 @@ pub(crate) fn reply_to<R: Keeper, H: Host, C: Clock>(
     request: &Request,
     boot: u64,
 ) -> Reply
-    ensures { Reaches (site daemon.old (R.store keeper.old) (hosted H.told H.failures host.old)
+    ensures { Reaches (serial_world daemon.old (R.store keeper.old) (hosted H.contents H.failures host.old)
         (C.readings clock.old))
         (command_of request.now boot) result
-        (site daemon.new (R.store keeper.new) (hosted H.told H.failures host.new)
+        (serial_world daemon.new (R.store keeper.new) (hosted H.contents H.failures host.new)
         (C.readings clock.new)) }
 {
     match router.route(alloc, request, boot) {

@@ -4,7 +4,7 @@ ghost use Rattle.http_heads.specs.declared.request.Request.{Request as RequestVa
 ghost use Rattle.serial_run.specs.Commands.{Answers, Drills, DrillsOver};
 ghost use Rattle.serial_run.specs.Commands.{DrillsText, Tells, TellsDrill, drilled_text};
 ghost use Rattle.serial_run.specs.Worlds.{outlet};
-ghost use Rattle.serial_steps.specs.Steps.{hosted, site};
+ghost use Rattle.serial_steps.specs.Steps.{hosted, serial_world};
 ghost use Rattle.workload.specs.Stream.{stream_of};
 
 use crate::report::check_report;
@@ -80,8 +80,8 @@ fn answer_all<R: Keeper, H: Host, C: Clock>(
     requires buffer { input.buffer ≡ [] }
     requires empty { replies.old.held ≡ [] }
     ensures { Answers boot input.source.left
-        (site service.old (R.store keeper.old) (hosted H.told H.failures host.old) (C.readings clock.old))
-        (site service.new (R.store keeper.new) (hosted H.told H.failures host.new) (C.readings clock.new))
+        (serial_world service.old (R.store keeper.old) (hosted H.contents H.failures host.old) (C.readings clock.old))
+        (serial_world service.new (R.store keeper.new) (hosted H.contents H.failures host.new) (C.readings clock.new))
         replies.new.held result }
 {
     let Input {
@@ -156,8 +156,8 @@ fn drill_over<K: Sink, R: Keeper, H: Host, C: Clock>(
 ) -> u8
     requires { count ≤ 10000 }
     ensures { DrillsOver boot (stream_of seed count) result
-        (site service (R.store keeper.old) (hosted H.told H.failures host.old) (C.readings clock.old))
-        (outlet K.held K.failures sink.old) (R.store keeper.new) (hosted H.told H.failures host.new)
+        (serial_world service (R.store keeper.old) (hosted H.contents H.failures host.old) (C.readings clock.old))
+        (outlet K.held K.failures sink.old) (R.store keeper.new) (hosted H.contents H.failures host.new)
         (C.readings clock.new) (outlet K.held K.failures sink.new) }
 {
     let Ok(input) = input_of(alloc, seed, count) else {
@@ -196,14 +196,14 @@ pub fn drill<K: Sink, R: Keeper, H: Host, C: Clock>(
 ) -> u8
     requires { count ≤ 10000 }
     ensures done { Drills boot (stream_of seed count) result
-        (R.store keeper.old) (hosted H.told H.failures host.old) (C.readings clock.old)
-        (outlet K.held K.failures sink.old) (R.store keeper.new) (hosted H.told H.failures host.new)
+        (R.store keeper.old) (hosted H.contents H.failures host.old) (C.readings clock.old)
+        (outlet K.held K.failures sink.old) (R.store keeper.new) (hosted H.contents H.failures host.new)
         (C.readings clock.new) (outlet K.held K.failures sink.new) }
     // Where something was written, each request was answered as the machine says.
     ensures text { (messages : List RequestValue) → Splits (stream_of seed count) messages ended
         → (result ≡ 0) ⊎ (result ≡ 5) → DrillsText boot messages result
-        (R.store keeper.old) (hosted H.told H.failures host.old) (C.readings clock.old)
-        (outlet K.held K.failures sink.old) (R.store keeper.new) (hosted H.told H.failures host.new)
+        (R.store keeper.old) (hosted H.contents H.failures host.old) (C.readings clock.old)
+        (outlet K.held K.failures sink.old) (R.store keeper.new) (hosted H.contents H.failures host.new)
         (C.readings clock.new) (outlet K.held K.failures sink.new) }
 {
     drill_from(alloc, sink, keeper, host, clock, boot, seed, count)
@@ -222,8 +222,8 @@ fn drill_from<K: Sink, R: Keeper, H: Host, C: Clock>(
 ) -> u8
     requires { count ≤ 10000 }
     ensures { Drills boot (stream_of seed count) result
-        (R.store keeper.old) (hosted H.told H.failures host.old) (C.readings clock.old)
-        (outlet K.held K.failures sink.old) (R.store keeper.new) (hosted H.told H.failures host.new)
+        (R.store keeper.old) (hosted H.contents H.failures host.old) (C.readings clock.old)
+        (outlet K.held K.failures sink.old) (R.store keeper.new) (hosted H.contents H.failures host.new)
         (C.readings clock.new) (outlet K.held K.failures sink.new) }
 {
     match Service::new(alloc, keeper) {

@@ -5,7 +5,7 @@ ghost use Rattle.row_machine.specs.facts.Whole.{AreBalanced};
 ghost use Rattle.serial_run.specs.Report.{amounts_line, books_of, count_line, counts_of, number_at_end, report_of};
 
 use reservations::Books;
-use row_readings::View;
+use row_readings::StateRef;
 use size_values::{Amounts, NoMemory, Text};
 use std::alloc::Global;
 
@@ -61,7 +61,7 @@ fn held_of(books: &Books) -> Amounts
 
 /// The lines of the rows.
 #[tactic(auto, unfolding(crate::specs::Report::counts_of))]
-fn counts_of(alloc: Global, view: &View<'_>) -> Result<String, NoMemory>
+fn counts_of(alloc: Global, view: &StateRef<'_>) -> Result<String, NoMemory>
     ensures { IfOk result (λ text. string_bytes text ≡ counts_of view.now) }
 {
     let mut text = String::new(alloc);
@@ -76,7 +76,7 @@ fn counts_of(alloc: Global, view: &View<'_>) -> Result<String, NoMemory>
 }
 
 /// Adds the lines of the books.
-fn push_books(alloc: Global, text: &mut String, view: &View<'_>) -> Result<(), NoMemory>
+fn push_books(alloc: Global, text: &mut String, view: &StateRef<'_>) -> Result<(), NoMemory>
     requires { AreBalanced view.now }
     ensures { IfOk result (λ _. string_bytes text.new ≡ string_bytes text.old ++ books_of view.now) }
 {
@@ -91,7 +91,7 @@ fn push_books(alloc: Global, text: &mut String, view: &View<'_>) -> Result<(), N
 /// N`, the numbers of rows; and `granted`, `converted`, `returned` and `held`, each with seven numbers, which are
 /// numbers of instances, containers and virtual machines, processors, bytes of memory, processes, and bytes of disk,
 /// summed over all projects. Words are joined by one space, and each line ends with LF.
-pub fn check_report(alloc: Global, view: &View<'_>) -> Result<Text, NoMemory>
+pub fn check_report(alloc: Global, view: &StateRef<'_>) -> Result<Text, NoMemory>
     requires { AreBalanced view.now }
     ensures { IfOk result (λ text. text ≡ report_of view.now) }
 {

@@ -18,7 +18,7 @@ ghost use Rattle.serial_run.specs.Does.{Does};
 ghost use Rattle.serial_run.specs.Runs.{Runs, RunsOver, SessionFrom, boot_with, seen_with};
 ghost use Rattle.serial_run.specs.Inputs.{status_of};
 ghost use Rattle.serial_run.specs.Texts.{RunsText, is_fault};
-ghost use Rattle.serial_run.specs.Worlds.{inlet, outlet, outside, world};
+ghost use Rattle.serial_run.specs.Worlds.{inlet, outlet, outside, session_world};
 
 use crate::checking::check;
 use crate::drilling::drill;
@@ -49,11 +49,11 @@ fn session<S: Source, K: Sink, R: Keeper, H: Host, C: Clock>(
 ) -> SessionEnd
     requires { buffer ≡ [] }
     ensures { SessionFrom boot pace
-        (world []
+        (session_world []
         (outside (inlet S.left S.ended S.failures source.old) (outlet K.held K.failures sink.old)
-        (R.store keeper.old) (hosted H.told H.failures host.old) (C.readings clock.old)) service)
+        (R.store keeper.old) (hosted H.contents H.failures host.old) (C.readings clock.old)) service)
         (outside (inlet S.left S.ended S.failures source.new) (outlet K.held K.failures sink.new)
-        (R.store keeper.new) (hosted H.told H.failures host.new) (C.readings clock.new)) result }
+        (R.store keeper.new) (hosted H.contents H.failures host.new) (C.readings clock.new)) result }
 {
     let ends = serve(
         alloc,
@@ -85,9 +85,9 @@ fn run_over<S: Source, K: Sink, R: Keeper, H: Host, C: Clock>(
 ) -> (u8, R)
     ensures { RunsOver boot pace
         (outside (inlet S.left S.ended S.failures source.old) (outlet K.held K.failures sink.old)
-        (R.store keeper) (hosted H.told H.failures host.old) (C.readings clock.old))
+        (R.store keeper) (hosted H.contents H.failures host.old) (C.readings clock.old))
         (outside (inlet S.left S.ended S.failures source.new) (outlet K.held K.failures sink.new)
-        (R.store result.1) (hosted H.told H.failures host.new) (C.readings clock.new)) result.0 }
+        (R.store result.1) (hosted H.contents H.failures host.new) (C.readings clock.new)) result.0 }
 {
     let Ok(buffer) = Buffer::new(alloc) else {
         return (StartFault::NoMemory.status(), keeper);
@@ -126,9 +126,9 @@ fn run_said<S: Source, K: Sink, R: Keeper, H: Host, C: Clock>(
     requires early { IfSome said.now (λ moment. moment < moment_limit) }
     ensures { (words : List (List ℕ)) → words_of words ≡ Some (command_of.Run said) → Runs words boot
         (outside (inlet S.left S.ended S.failures source.old) (outlet K.held K.failures sink.old)
-        (R.store keeper) (hosted H.told H.failures host.old) (C.readings clock.old))
+        (R.store keeper) (hosted H.contents H.failures host.old) (C.readings clock.old))
         (outside (inlet S.left S.ended S.failures source.new) (outlet K.held K.failures sink.new)
-        (R.store result.1) (hosted H.told H.failures host.new) (C.readings clock.new)) result.0 }
+        (R.store result.1) (hosted H.contents H.failures host.new) (C.readings clock.new)) result.0 }
 {
     let boot = said.boot.unwrap_or(boot);
     match said.now {
@@ -156,9 +156,9 @@ fn carry_out<S: Source, K: Sink, R: Keeper, H: Host, C: Clock>(
     requires range { AreInRange command }
     ensures { (words : List (List ℕ)) → words_of words ≡ Some command → Does words boot
         (outside (inlet S.left S.ended S.failures source.old) (outlet K.held K.failures sink.old)
-        (R.store keeper) (hosted H.told H.failures host.old) (C.readings clock.old))
+        (R.store keeper) (hosted H.contents H.failures host.old) (C.readings clock.old))
         (outside (inlet S.left S.ended S.failures source.new) (outlet K.held K.failures sink.new)
-        (R.store result.1) (hosted H.told H.failures host.new) (C.readings clock.new)) result.0 }
+        (R.store result.1) (hosted H.contents H.failures host.new) (C.readings clock.new)) result.0 }
 {
     match command {
         CommandWords::Run(said) => {
@@ -189,9 +189,9 @@ fn run<S: Source, K: Sink, R: Keeper, H: Host, C: Clock>(
 ) -> (u8, R)
     ensures { Does (map (λ w. string_bytes w) words.now) boot
         (outside (inlet S.left S.ended S.failures source.old) (outlet K.held K.failures sink.old)
-        (R.store keeper) (hosted H.told H.failures host.old) (C.readings clock.old))
+        (R.store keeper) (hosted H.contents H.failures host.old) (C.readings clock.old))
         (outside (inlet S.left S.ended S.failures source.new) (outlet K.held K.failures sink.new)
-        (R.store result.1) (hosted H.told H.failures host.new) (C.readings clock.new)) result.0 }
+        (R.store result.1) (hosted H.contents H.failures host.new) (C.readings clock.new)) result.0 }
 {
     match read_words(alloc, words) {
         Ok(Some(command)) => { carry_out(alloc, command, source, sink, keeper, host, clock, boot) }
@@ -218,9 +218,9 @@ pub fn run_main<S: Source, K: Sink, R: Keeper, H: Host, C: Clock>(
     // There was a session, or there was none; or another command was carried out.
     ensures done { Does (map (λ w. string_bytes w) words.now) boot
         (outside (inlet S.left S.ended S.failures source.old) (outlet K.held K.failures sink.old)
-        (R.store keeper) (hosted H.told H.failures host.old) (C.readings clock.old))
+        (R.store keeper) (hosted H.contents H.failures host.old) (C.readings clock.old))
         (outside (inlet S.left S.ended S.failures source.new) (outlet K.held K.failures sink.new)
-        (R.store result.1) (hosted H.told H.failures host.new) (C.readings clock.new)) result.0 }
+        (R.store result.1) (hosted H.contents H.failures host.new) (C.readings clock.new)) result.0 }
 
     // A run over a source that tells its bytes: a fault, or what these bytes ask.
     ensures text { IfSome (S.left source.old) (λ text. (messages : List Request) (ending : Ending)
@@ -229,10 +229,10 @@ pub fn run_main<S: Source, K: Sink, R: Keeper, H: Host, C: Clock>(
         (pace_of (map (λ w. string_bytes w) words.now)) messages ending result.0
         (seen_with (map (λ w. string_bytes w) words.now)
         (outside (inlet S.left S.ended S.failures source.old) (outlet K.held K.failures sink.old)
-        (R.store keeper) (hosted H.told H.failures host.old) (C.readings clock.old)))
+        (R.store keeper) (hosted H.contents H.failures host.old) (C.readings clock.old)))
         (seen_with (map (λ w. string_bytes w) words.now)
         (outside (inlet S.left S.ended S.failures source.new) (outlet K.held K.failures sink.new)
-        (R.store result.1) (hosted H.told H.failures host.new) (C.readings clock.new)))) }
+        (R.store result.1) (hosted H.contents H.failures host.new) (C.readings clock.new)))) }
 
     // Whole messages, entries that open to rows and no fault: all messages are answered, or memory
     // was refused. A call of the host that fails makes an operation fail, and no request.
@@ -241,7 +241,7 @@ pub fn run_main<S: Source, K: Sink, R: Keeper, H: Host, C: Clock>(
         → length messages < most_requests →
         (entries : List EntryValue) (s : State)
         → is_run (map (λ w. string_bytes w) words.now) ≡ true
-        → (R.store keeper).told ≡ Some entries → opening_of entries ≡ opened s →
+        → (R.store keeper).contents ≡ Some entries → opening_of entries ≡ opened s →
         ¬ (Rose (S.failures source.old) (S.failures source.new))
         → ¬ (Rose (K.failures sink.old) (K.failures sink.new))
         → ¬ (Rose (R.store keeper).failures (R.store result.1).failures) →
@@ -261,8 +261,8 @@ pub fn run_main<S: Source, K: Sink, R: Keeper, H: Host, C: Clock>(
     // Entries that open to no rows: nothing is written, and the keeper is as it was but for a load.
     ensures unopened { result.0 ≡ 7 → (is_some (words_of (map (λ w. string_bytes w) words.now)) ≡ true)
         × (R.store result.1 ≡ after_calls 1 (R.store keeper))
-        × IfSome (R.store keeper).told (λ entries. is_refused (opening_of entries) ≡ true) }
-    ensures refused { IfSome (R.store keeper).told (λ entries.
+        × IfSome (R.store keeper).contents (λ entries. is_refused (opening_of entries) ≡ true) }
+    ensures refused { IfSome (R.store keeper).contents (λ entries.
         is_refused (opening_of entries) ≡ true → is_run (map (λ w. string_bytes w) words.now) ≡ true →
         ¬ (Rose (R.store keeper).failures (R.store result.1).failures)
         → (K.held sink.new ≡ K.held sink.old) × ((result.0 ≡ 7) ⊎ (result.0 ≡ 9))) }

@@ -1,7 +1,7 @@
 ghost use Rattle.std.specs.Prelude.{◌≡◌, List};
 ghost use Rattle.row_machine.specs.facts.Whole.{IsWhole};
 ghost use Rattle.serial_steps.specs.core_turns.specs.Turns.{without_notices};
-ghost use Rattle.serial_steps.specs.Steps.{hosted, site, Step};
+ghost use Rattle.serial_steps.specs.Steps.{hosted, serial_world, Step};
 ghost use Rattle.serial_run.specs.Answers.{Answers, OpensService};
 ghost use Rattle.serial_run.specs.Exchanges.{IsPaced};
 
@@ -10,9 +10,9 @@ use command_words::Pace;
 use host_model::Host;
 use http_front::{Clock, Request};
 use record_keeper::Keeper;
-use rest_answers::{Answered, answer_for};
+use rest_answers::{PrintedReply, answer_for};
 use rest_routes::{Router, asks_for_server};
-use row_readings::View;
+use row_readings::StateRef;
 use serial_steps::{Daemon, SerialDaemon};
 use start_faults::OpenFault;
 use std::alloc::Global;
@@ -63,11 +63,11 @@ impl Service {
         clock: &mut C,
         request: &Request,
         boot: u64,
-    ) -> Answered
+    ) -> PrintedReply
         ensures { Answers boot
-            (site self.old (R.store keeper.old) (hosted H.told H.failures host.old)
+            (serial_world self.old (R.store keeper.old) (hosted H.contents H.failures host.old)
             (C.readings clock.old))
-            (site self.new (R.store keeper.new) (hosted H.told H.failures host.new)
+            (serial_world self.new (R.store keeper.new) (hosted H.contents H.failures host.new)
             (C.readings clock.new))
             request.now result }
     {
@@ -90,7 +90,7 @@ impl Service {
     }
 
     /// The rows and operations, to be read, without the notices.
-    pub fn view(&self) -> View<'_>
+    pub fn view(&self) -> StateRef<'_>
         ensures rows { result ≡ without_notices self.now.state }
         ensures whole { IsWhole self.now.state }
     {
@@ -107,9 +107,9 @@ impl Service {
         pace: Pace,
     )
         ensures { (steps : List Step) × IsPaced pace
-            (site self.old (R.store keeper.old) (hosted H.told H.failures host.old)
+            (serial_world self.old (R.store keeper.old) (hosted H.contents H.failures host.old)
             (C.readings clock.old)) steps
-            (site self.new (R.store keeper.new) (hosted H.told H.failures host.new)
+            (serial_world self.new (R.store keeper.new) (hosted H.contents H.failures host.new)
             (C.readings clock.new)) }
     {
         match pace {

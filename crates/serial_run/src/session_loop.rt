@@ -2,7 +2,7 @@ ghost use Rattle.std.specs.Prelude.{◌≡◌, ◌<◌};
 ghost use Rattle.serial_steps.specs.Steps.{hosted};
 ghost use Rattle.serial_run.specs.Most.{most_requests};
 ghost use Rattle.serial_run.specs.Sessions.{Session, end_after_final};
-ghost use Rattle.serial_run.specs.Worlds.{inlet, outlet, outside, world};
+ghost use Rattle.serial_run.specs.Worlds.{inlet, outlet, outside, session_world};
 
 use crate::service::Service;
 use crate::session::{MOST_REQUESTS, SessionEnd, Turn};
@@ -39,13 +39,13 @@ pub fn serve<S: Source, K: Sink, R: Keeper, H: Host, C: Clock>(
     pace: Pace,
 ) -> SessionEnd
     ensures { Session boot pace
-        (world buffer.old
+        (session_world buffer.old
         (outside (inlet S.left S.ended S.failures source.old) (outlet K.held K.failures sink.old)
-        (R.store keeper.old) (hosted H.told H.failures host.old) (C.readings clock.old))
+        (R.store keeper.old) (hosted H.contents H.failures host.old) (C.readings clock.old))
         service.old)
-        (world buffer.new
+        (session_world buffer.new
         (outside (inlet S.left S.ended S.failures source.new) (outlet K.held K.failures sink.new)
-        (R.store keeper.new) (hosted H.told H.failures host.new) (C.readings clock.new))
+        (R.store keeper.new) (hosted H.contents H.failures host.new) (C.readings clock.new))
         service.new)
         result }
 {

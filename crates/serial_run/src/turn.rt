@@ -1,7 +1,7 @@
 ghost use Rattle.std.specs.Prelude.{◌≡◌};
-ghost use Rattle.serial_steps.specs.Steps.{hosted, site};
+ghost use Rattle.serial_steps.specs.Steps.{hosted, serial_world};
 ghost use Rattle.serial_run.specs.Sessions.{GoesOn, RefusesPlace, Turns, WritesAnswer, turn_after};
-ghost use Rattle.serial_run.specs.Worlds.{inlet, outlet, outside, world};
+ghost use Rattle.serial_run.specs.Worlds.{inlet, outlet, outside, session_world};
 
 use crate::service::Service;
 use crate::session::{SessionEnd, Turn};
@@ -11,7 +11,7 @@ use http_front::{
     Buffer, Clock, Got, HeadFault, Sink, SinkFailed, Source, no_memory_reply, read_request,
 };
 use record_keeper::Keeper;
-use rest_answers::{Answered, print_malformed};
+use rest_answers::{PrintedReply, print_malformed};
 use size_values::NoMemory;
 use std::alloc::Global;
 
@@ -28,14 +28,14 @@ fn turn_after(written: Result<(), SinkFailed>, last: bool) -> Turn
 
 /// Writes what a request is answered. Where memory for its reply was refused, nothing is written
 /// and the session stops.
-fn write_answer<K: Sink>(sink: &mut K, answered: &Answered, last: bool) -> Turn
+fn write_answer<K: Sink>(sink: &mut K, answered: &PrintedReply, last: bool) -> Turn
     ensures { WritesAnswer result answered.now last (outlet K.held K.failures sink.old)
         (outlet K.held K.failures sink.new) }
 {
     match answered {
-        Answered::Printed(bytes) => turn_after(sink.write(bytes.view()), last),
-        Answered::NoMemory => turn_after(sink.write(no_memory_reply(last)), last),
-        Answered::Unprinted => Turn::Stop(SessionEnd::NoMemory),
+        PrintedReply::Printed(bytes) => turn_after(sink.write(bytes.view()), last),
+        PrintedReply::NoMemory => turn_after(sink.write(no_memory_reply(last)), last),
+        PrintedReply::Unprinted => Turn::Stop(SessionEnd::NoMemory),
     }
 }
 
@@ -64,9 +64,9 @@ fn go_on<R: Keeper, H: Host, C: Clock>(
     turn: Turn,
 )
     ensures { GoesOn pace turn
-        (site service.old (R.store keeper.old) (hosted H.told H.failures host.old)
+        (serial_world service.old (R.store keeper.old) (hosted H.contents H.failures host.old)
         (C.readings clock.old))
-        (site service.new (R.store keeper.new) (hosted H.told H.failures host.new)
+        (serial_world service.new (R.store keeper.new) (hosted H.contents H.failures host.new)
         (C.readings clock.new)) }
 {
     match turn {
@@ -91,13 +91,13 @@ pub(crate) fn turn<S: Source, K: Sink, R: Keeper, H: Host, C: Clock>(
     pace: Pace,
 ) -> Turn
     ensures { Turns boot pace result
-        (world buffer.old
+        (session_world buffer.old
         (outside (inlet S.left S.ended S.failures source.old) (outlet K.held K.failures sink.old)
-        (R.store keeper.old) (hosted H.told H.failures host.old) (C.readings clock.old))
+        (R.store keeper.old) (hosted H.contents H.failures host.old) (C.readings clock.old))
         service.old)
-        (world buffer.new
+        (session_world buffer.new
         (outside (inlet S.left S.ended S.failures source.new) (outlet K.held K.failures sink.new)
-        (R.store keeper.new) (hosted H.told H.failures host.new) (C.readings clock.new))
+        (R.store keeper.new) (hosted H.contents H.failures host.new) (C.readings clock.new))
         service.new) }
 {
     match read_request(alloc, buffer, source) {

@@ -14,7 +14,7 @@ use Rattle.record_keeper.specs.Store.{Store}
 use Rattle.row_machine.specs.machine.State.{State}
 use Rattle.row_machine.specs.machine.Step.{Outcome, well, keeper_failed, no_memory}
 use Rattle.core_turns.specs.core_reports.specs.Stores.{IsCaused, KeepsRecords}
-use Rattle.serial_steps.specs.Steps.{Hosted, Site, Step, took, reported, Steps, StepsWhile, HasCause}
+use Rattle.serial_steps.specs.Steps.{Hosted, SerialWorld, Step, took, reported, Steps, StepsWhile, HasCause}
 use Rattle.serial_steps.specs.Counts.{moment_of, moments_in, report_of, reports_in, failed_calls, host_failure, host_failures_in, failed_commits, keeper_failure, keeper_failures_in, roots_by, Makes, ComesTo, StepsComeTo}
 
 -- ---- counts and readings
@@ -42,7 +42,7 @@ rose-twice m n a b c first then = omega (arith, first, then)
 -- ---- of one step
 
 -- what a step comes to
-record Comes (w : Site) (s : Step) (w' : Site) : Type 0 where
+record Comes (w : SerialWorld) (s : Step) (w' : SerialWorld) : Type 0 where
   clock : Reads w.clock (moment_of s ∷ []) w'.clock
   early : moment_of s < moment_limit
   host : Makes (reports_in (s ∷ [])) w.host.roots w'.host.roots
@@ -50,9 +50,9 @@ record Comes (w : Site) (s : Step) (w' : Site) : Type 0 where
   host_later : w.host.failures ≤ w'.host.failures
   keeper_failed : RoseBy (keeper_failure s) w.store.failures w'.store.failures
   keeper_later : w.store.failures ≤ w'.store.failures
-  kept : KeepsRecords w.store.told w.serial.state w'.store.told w'.serial.state
+  kept : KeepsRecords w.store.contents w.serial.state w'.store.contents w'.serial.state
 
-comes : (w : Site) (s : Step) (w' : Site) → Steps w s w' → Comes w s w'
+comes : (w : SerialWorld) (s : Step) (w' : SerialWorld) → Steps w s w' → Comes w s w'
 comes w (took moment) w' t =
     let same : w'.store ≡ w.store = t.turn.stored in
     record {
@@ -100,7 +100,7 @@ makes-more (Some r) reports a b c first then = by first.made first.reports_are f
     head same = cc
   by (m ∷ n ∷ more) are is = cc
 
-none-come : (w : Site) → ComesTo w [] w
+none-come : (w : SerialWorld) → ComesTo w [] w
 none-come w = record {
   clock = refl;
   early = All-nil (λ m. m < moment_limit);
@@ -112,7 +112,7 @@ none-come w = record {
   kept = λ start is. is;
 }
 
-first-come : (w next w' : Site) (s : Step) (steps : List Step) → Comes w s next → ComesTo next steps w' → ComesTo w (s ∷ steps) w'
+first-come : (w next w' : SerialWorld) (s : Step) (steps : List Step) → Comes w s next → ComesTo next steps w' → ComesTo w (s ∷ steps) w'
 first-come w next w' s steps first then = record {
   clock = (first.clock.0, subst (λ told. Reads told (moments_in steps) w'.clock) first.clock.1 then.clock);
   early = All-cons (λ m. m < moment_limit) (moment_of s) (moments_in steps) first.early then.early;
@@ -126,7 +126,7 @@ first-come w next w' s steps first then = record {
   kept = λ start is. then.kept start (first.kept start is);
 }
 
-pub steps-come_to : (such : State → Type 0) (w : Site) (steps : List Step) (w' : Site) → StepsWhile such w steps w' → ComesTo w steps w'
+pub steps-come_to : (such : State → Type 0) (w : SerialWorld) (steps : List Step) (w' : SerialWorld) → StepsWhile such w steps w' → ComesTo w steps w'
 steps-come_to such w [] w' same = subst (ComesTo w []) same (none-come w)
 steps-come_to such w (s ∷ steps) w' made = first-come w made.1 w' s steps (comes w s made.1 made.2) (steps-come_to such made.1 steps w' made.3)
 

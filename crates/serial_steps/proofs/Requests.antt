@@ -15,7 +15,7 @@ use Rattle.operations.specs.declared.status.Status.{Status}
 use Rattle.operations.specs.declared.status.Status.TheVariants as status
 use Rattle.operations.specs.declared.status.Status.TheVariants.{Pending, Running, Cancelling}
 use Rattle.operations.specs.Statuses.{is_live, cancel_of}
-use Rattle.operations.specs.Kept.{Kept, has_number, live_at, kept_at, cancel_answer}
+use Rattle.operations.specs.OperationTable.{OperationTable, has_number, live_at, kept_at, cancel_answer}
 use Rattle.operations.proofs.KeptLemmas.{live-from_kept}
 use Rattle.records.specs.declared.commands.Command.{Command}
 use Rattle.records.specs.declared.commands.What.{What}
@@ -27,7 +27,7 @@ use Rattle.row_machine.specs.machine.Task.{Task}
 use Rattle.row_machine.specs.machine.State.{State}
 use Rattle.row_machine.specs.machine.Changes.{applied}
 use Rattle.row_machine.specs.machine.Plans.{Plan, nothing, changes, starts, plan_of}
-use Rattle.row_machine.specs.machine.Work.{entered, moved, cancelled}
+use Rattle.row_machine.specs.machine.Operations.{entered, moved, cancelled}
 use Rattle.row_machine.specs.shown.Notices.{telling, operation_notice, change_notices}
 use Rattle.row_machine.specs.machine.Rules.{broken}
 use Rattle.row_machine.specs.machine.Accept.{After, accepted, carried_out, after_cancel, cancel_or_read}
@@ -46,14 +46,14 @@ abbrev pub WaitsOr : Option ℕ → Operation Task → Type 0
 WaitsOr hand o = (o.status ≡ Pending) ⊎ (hand ≡ Some o.number)
 
 -- an operation of this number is live, and does not wait
-abbrev Goes : Kept Task → ℕ → Type 0
+abbrev Goes : OperationTable Task → ℕ → Type 0
 Goes k n = (o : Operation Task) × ((live_at k n ≡ Some o) × (o.status ≢ Pending))
 
 -- a state with the same operations
 pub same-alone : (s t : State) (hand : Option ℕ) → t.operations ≡ s.operations → IsAlone s hand → IsAlone t hand
 same-alone s t hand same h = record {
-  others = subst (λ (k : Kept Task). Each (WaitsOr hand) k.live) (sym same) h.others;
-  own = λ n e. subst (λ (k : Kept Task). Goes k n) (sym same) (h.own n e);
+  others = subst (λ (k : OperationTable Task). Each (WaitsOr hand) k.live) (sym same) h.others;
+  own = λ n e. subst (λ (k : OperationTable Task). Goes k n) (sym same) (h.own n e);
 }
 
 -- the worker is left alone, whatever it has in hand

@@ -8,7 +8,7 @@ use Rattle.host_model.specs.declared.report.Report.{Report}
 use Rattle.host_model.specs.declared.report.Report.TheVariants as report
 use Rattle.host_model.specs.Reports.{roots_after, CarriesCounts}
 use Rattle.http_front.specs.Clocks.{Readings, Reads}
-use Rattle.operations.specs.Kept.{Kept}
+use Rattle.operations.specs.OperationTable.{OperationTable}
 use Rattle.record_keeper.specs.Store.{Store}
 use Rattle.records.specs.declared.commands.Command.{Command}
 use Rattle.row_machine.specs.declared.events.Answer.{Answer}
@@ -22,7 +22,7 @@ use Rattle.row_machine.specs.facts.Whole.{IsWhole}
 use Rattle.core_turns.specs.Turns.{IsTurn, Turns}
 use Rattle.machine_laws.specs.Waits.{Round, Served, served, event_of, hand_of, IsAlone}
 use Rattle.machine_laws.proofs.WaitsSteps.{served-does}
-use Rattle.serial_steps.specs.Steps.{Site, site, serial, Hosted, Step, took, reported, Steps, HasCause, job_of, number_in}
+use Rattle.serial_steps.specs.Steps.{SerialWorld, serial_world, serial, Hosted, Step, took, reported, Steps, HasCause, job_of, number_in}
 use Rattle.machine_laws.proofs.WaitsEnding.{Lessens, lessens, steps, steps_of}
 use Rattle.serial_steps.proofs.Requests.{same-alone, request-alone}
 use Rattle.serial_steps.proofs.Turning.{IsStep, turned-step}
@@ -43,7 +43,7 @@ took-well s store moment no_memory a s' store' t = absurd (never t.is) where
 
 pub take-steps : {s s' : State} {told told' : Readings} {moment : ℕ} {a : Answer} {hand : Option (ℕ × HostCall)}
     → ((store : Store) → IsTurn s store (event.Take moment) a s' store) → Reads told (moment ∷ []) told' → moment < moment_limit → hand ≡ job_of a
-    → (store : Store) (host : Hosted) → (step : Step) × Steps (site (serial s None) store host told) step (site (serial s' hand) store host told')
+    → (store : Store) (host : Hosted) → (step : Step) × Steps (serial_world (serial s None) store host told) step (serial_world (serial s' hand) store host told')
 take-steps {s} {s'} {told} {told'} {moment} {a} {hand} turn reads early is store host =
     let t : IsTurn s store (event.Take moment) a s' store = turn store in (
       took moment,
@@ -71,7 +71,7 @@ pub report-steps : {s s' : State} {store store' : Store} {before after : Hosted}
     {a : Answer} {hand : Option (ℕ × HostCall)}
     → IsTurn s store (event.Done number r moment) a s' store' → after.roots ≡ roots_after r call before.roots → CarriesCounts r before.failures after.failures
     → before.failures ≤ after.failures → Reads told (moment ∷ []) told' → moment < moment_limit → hand ≡ job_of a
-    → (step : Step) × Steps (site (serial s (Some (number, call))) store before told) step (site (serial s' hand) store' after told')
+    → (step : Step) × Steps (serial_world (serial s (Some (number, call))) store before told) step (serial_world (serial s' hand) store' after told')
 report-steps {s} {s'} {store} {store'} {before} {after} {told} {told'} {number} {call} {r} {moment} {a} {hand} t roots counts later reads early is = (
   reported r moment t.outcome,
   record {
@@ -108,7 +108,7 @@ number-job answer.Closed = refl
 number-job answer.NoMemory = refl
 
 -- less is left to do, and the worker is alone
-pub record StaysAlone (w w' : Site) : Type 0 where
+pub record StaysAlone (w w' : SerialWorld) : Type 0 where
   pub less : steps_of w'.serial.state ≤ steps_of w.serial.state - 1
   pub alone : IsAlone w'.serial.state (number_in w'.serial.hand)
 
@@ -117,11 +117,11 @@ abbrev with_hand : After → Served
 with_hand a = record { state = a.state; hand = hand_of a.answer }
 
 -- a turn of the worker, with this number in hand or none
-turn-lessens : (w w' : Site) (hand : Option ℕ) (round : Round) (a : Answer) → IsWhole w.serial.state → IsAlone w.serial.state hand
+turn-lessens : (w w' : SerialWorld) (hand : Option ℕ) (round : Round) (a : Answer) → IsWhole w.serial.state → IsAlone w.serial.state hand
     → step w.serial.state (event_of hand round) round.outcome ≡ Some (record { answer = a; state = w'.serial.state })
     → w'.serial.hand ≡ job_of a → StaysAlone w w'
 turn-lessens w w' hand round a h alone is job = record {
-  less = subst (λ (k : Kept Task). sum_by steps k.live ≤ steps_of w.serial.state - 1) (sym s.operations) left.less;
+  less = subst (λ (k : OperationTable Task). sum_by steps k.live ≤ steps_of w.serial.state - 1) (sym s.operations) left.less;
   alone = subst (IsAlone w'.serial.state) (sym in_hand) (same-alone s.after.state w'.serial.state (hand_of s.after.answer) s.operations left.alone);
 } where
   s : IsStep w.serial.state (event_of hand round) round.outcome a w'.serial.state
@@ -136,7 +136,7 @@ turn-lessens w w' hand round a h alone is job = record {
   in_hand : number_in w'.serial.hand ≡ hand_of s.after.answer
   in_hand = ap number_in job ∙ number-job a ∙ ap hand_of (sym s.answered)
 
-pub step-lessens : (w : Site) (s : Step) (w' : Site) → IsWhole w.serial.state → IsAlone w.serial.state (number_in w.serial.hand) → Steps w s w' → StaysAlone w w'
+pub step-lessens : (w : SerialWorld) (s : Step) (w' : SerialWorld) → IsWhole w.serial.state → IsAlone w.serial.state (number_in w.serial.hand) → Steps w s w' → StaysAlone w w'
 step-lessens w (took moment) w' h alone t =
     turn-lessens w w' None (record { moment = moment; report = report.Done; outcome = well }) t.answer h
     (subst (λ hand. IsAlone w.serial.state (number_in hand)) t.idle alone) t.turn.is t.hand
@@ -147,11 +147,11 @@ step-lessens w (reported r moment outcome) w' h alone t =
 -- the worker of a server stays alone, where the call in hand was taken out and the next one put in
 pub step-alone : {s s' : State} {hand taken next hand' : Option (ℕ × HostCall)} {store store' : Store} {host host' : Hosted} {told told' : Readings}
     → IsWhole s → IsAlone s (number_in hand) → taken ≡ hand
-    → (step : Step) × Steps (site (serial s taken) store host told) step (site (serial s' next) store' host' told') → hand' ≡ next
+    → (step : Step) × Steps (serial_world (serial s taken) store host told) step (serial_world (serial s' next) store' host' told') → hand' ≡ next
     → IsAlone s' (number_in hand')
 step-alone {s} {s'} {hand} {taken} {next} {hand'} {store} {store'} {host} {host'} {told} {told'} h alone out made put =
     subst (λ x. IsAlone s' (number_in x)) (sym put)
-    (step-lessens (site (serial s taken) store host told) made.0 (site (serial s' next) store' host' told') h
+    (step-lessens (serial_world (serial s taken) store host told) made.0 (serial_world (serial s' next) store' host' told') h
     (subst (λ x. IsAlone s (number_in x)) (sym out) alone) made.1).alone
 
 -- ---- a request

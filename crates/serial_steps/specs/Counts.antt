@@ -12,7 +12,7 @@ use Rattle.host_model.specs.Reports.{roots_after}
 use Rattle.http_front.specs.Clocks.{Reads}
 use Rattle.row_machine.specs.machine.Step.{Outcome, well, keeper_failed, no_memory}
 use Rattle.core_turns.specs.core_reports.specs.Stores.{KeepsRecords}
-use Rattle.serial_steps.specs.Steps.{Site, Step, took, reported, StepsTo}
+use Rattle.serial_steps.specs.Steps.{SerialWorld, Step, took, reported, StepsTo}
 
 -- ---- of one step
 
@@ -60,29 +60,31 @@ host_failures_in steps = sum_by host_failure steps
 abbrev pub keeper_failures_in : List Step → ℕ
 keeper_failures_in steps = sum_by keeper_failure steps
 
--- the told roots after these calls, each with its report
+-- the roots that a host shows after these calls, each with its report
 abbrev pub roots_by : List (Report × HostCall) → Option (List HostRoot) → Option (List HostRoot)
 roots_by [] roots = roots
 roots_by (made ∷ more) roots = roots_by more (roots_after made.0 made.1 roots)
 
--- calls with these reports, one for each, made these roots of the told ones
+-- calls with these reports, one for each, made these roots of those
 pub record Makes (reports : List Report) (roots roots' : Option (List HostRoot)) : Type 0 where
   pub made : List (Report × HostCall)
   pub reports_are : map (λ (pair : Report × HostCall). pair.0) made ≡ reports
   pub roots_are : roots' ≡ roots_by made roots
 
--- What steps came to. The clock was read once for each, in their order, before the year 10000; the host's told roots
+-- What steps came to. The clock was read once for each, in their order, before the year 10000; the host's roots
 -- are those that the calls made; the counts of the host and of the keeper rose at least by the failures that the steps
 -- tell of, and never fell; and entries that were the records of the rows are so afterwards.
-pub record ComesTo (site : Site) (steps : List Step) (later : Site) : Type 0 where
-  pub clock : Reads site.clock (moments_in steps) later.clock
+pub record ComesTo (world : SerialWorld) (steps : List Step) (later : SerialWorld) : Type 0 where
+  pub clock : Reads world.clock (moments_in steps) later.clock
   pub early : All (λ moment. moment < moment_limit) (moments_in steps)
-  pub host : Makes (reports_in steps) site.host.roots later.host.roots
-  pub host_failed : RoseBy (host_failures_in steps) site.host.failures later.host.failures
-  pub host_later : site.host.failures ≤ later.host.failures
-  pub keeper_failed : RoseBy (keeper_failures_in steps) site.store.failures later.store.failures
-  pub keeper_later : site.store.failures ≤ later.store.failures
-  pub kept : KeepsRecords site.store.told site.serial.state later.store.told later.serial.state
+  pub host : Makes (reports_in steps) world.host.roots later.host.roots
+  pub host_failed : RoseBy (host_failures_in steps) world.host.failures later.host.failures
+  pub host_later : world.host.failures ≤ later.host.failures
+  pub keeper_failed : RoseBy (keeper_failures_in steps) world.store.failures later.store.failures
+  pub keeper_later : world.store.failures ≤ later.store.failures
+  pub kept : KeepsRecords world.store.contents world.serial.state later.store.contents later.serial.state
 
 abbrev pub StepsComeTo : Type 0
-StepsComeTo = (site : Site) (steps : List Step) (later : Site) → StepsTo site steps later → ComesTo site steps later
+StepsComeTo =
+    (world : SerialWorld) (steps : List Step) (later : SerialWorld) → StepsTo world steps later
+    → ComesTo world steps later

@@ -9,7 +9,7 @@ use Rattle.host_model.specs.declared.report.Report.TheVariants as report
 use Rattle.host_model.specs.declared.root.HostRoot.{HostRoot}
 use Rattle.host_model.specs.Reports.{roots_after, CarriesCounts}
 use Rattle.http_front.specs.Clocks.{Readings, Reads}
-use Rattle.operations.specs.Kept.{live_at}
+use Rattle.operations.specs.OperationTable.{live_at}
 use Rattle.record_keeper.specs.Store.{Store}
 use Rattle.row_machine.specs.declared.events.Answer.{Answer}
 use Rattle.row_machine.specs.declared.events.Answer.TheVariants as answer
@@ -44,14 +44,14 @@ hosted roots failures host = record { roots = roots host; failures = failures ho
 
 -- what a serial server is and works on at one moment: its rows and the call in hand, the store, the host, and what its
 -- clock tells of its readings to come
-pub record Site : Type 0 where
+pub record SerialWorld : Type 0 where
   pub serial : Serial
   pub store : Store
   pub host : Hosted
   pub clock : Readings
 
-abbrev pub site : Serial → Store → Hosted → Readings → Site
-site serial store host clock = record { serial = serial; store = store; host = host; clock = clock }
+abbrev pub serial_world : Serial → Store → Hosted → Readings → SerialWorld
+serial_world serial store host clock = record { serial = serial; store = store; host = host; clock = clock }
 
 -- ---- one step
 
@@ -67,15 +67,15 @@ job_of (answer.Job number call) = Some (number, call)
 job_of other = None
 
 -- a call was asked for, and there was one or none
-pub record Takes (site : Site) (moment : ℕ) (next : Site) : Type 0 where
+pub record Takes (world : SerialWorld) (moment : ℕ) (next : SerialWorld) : Type 0 where
   pub answer : Answer
-  pub idle : site.serial.hand ≡ None
-  pub turn : Turns site.serial.state site.store (event.Take moment) well answer next.serial.state next.store
+  pub idle : world.serial.hand ≡ None
+  pub turn : Turns world.serial.state world.store (event.Take moment) well answer next.serial.state next.store
   pub hand : next.serial.hand ≡ job_of answer
-  pub host : next.host ≡ site.host
-  pub clock : Reads site.clock (moment ∷ []) next.clock
+  pub host : next.host ≡ world.host
+  pub clock : Reads world.clock (moment ∷ []) next.clock
   pub early : moment < moment_limit
-  pub kept : KeepsRecords site.store.told site.serial.state next.store.told next.serial.state
+  pub kept : KeepsRecords world.store.contents world.serial.state next.store.contents next.serial.state
 
 -- a failed call has its cause in the host's count, which rose
 abbrev pub HasCause : Report → ℕ → ℕ → Type 0
@@ -84,27 +84,28 @@ HasCause (report.Failed rise) before after = Rose before after
 HasCause report.NoMemory before after = Unit {0}
 
 -- the call in hand was made, and its report was taken
-pub record Reports (site : Site) (report : Report) (moment : ℕ) (outcome : Outcome) (next : Site) : Type 0 where
+pub record Reports (world : SerialWorld) (report : Report) (moment : ℕ) (outcome : Outcome) (next : SerialWorld)
+    : Type 0 where
   pub number : ℕ
   pub call : HostCall
   pub answer : Answer
-  pub busy : site.serial.hand ≡ Some (number, call)
-  pub turn : Turns site.serial.state site.store (event.Done number report moment) outcome answer
+  pub busy : world.serial.hand ≡ Some (number, call)
+  pub turn : Turns world.serial.state world.store (event.Done number report moment) outcome answer
       next.serial.state next.store
   pub hand : next.serial.hand ≡ job_of answer
-  pub roots : next.host.roots ≡ roots_after report call site.host.roots
-  pub counts : CarriesCounts report site.host.failures next.host.failures
-  pub cause : HasCause report site.host.failures next.host.failures
-  pub later : site.host.failures ≤ next.host.failures
-  pub clock : Reads site.clock (moment ∷ []) next.clock
+  pub roots : next.host.roots ≡ roots_after report call world.host.roots
+  pub counts : CarriesCounts report world.host.failures next.host.failures
+  pub cause : HasCause report world.host.failures next.host.failures
+  pub later : world.host.failures ≤ next.host.failures
+  pub clock : Reads world.clock (moment ∷ []) next.clock
   pub early : moment < moment_limit
-  pub caused : IsCaused outcome site.store.failures next.store.failures
-  pub kept : KeepsRecords site.store.told site.serial.state next.store.told next.serial.state
+  pub caused : IsCaused outcome world.store.failures next.store.failures
+  pub kept : KeepsRecords world.store.contents world.serial.state next.store.contents next.serial.state
 
 -- one step leads from one moment to the next
-abbrev pub Steps : Site → Step → Site → Type 0
-Steps site (took moment) next = Takes site moment next
-Steps site (reported report moment outcome) next = Reports site report moment outcome next
+abbrev pub Steps : SerialWorld → Step → SerialWorld → Type 0
+Steps world (took moment) next = Takes world moment next
+Steps world (reported report moment outcome) next = Reports world report moment outcome next
 
 -- ---- several steps
 
@@ -113,21 +114,21 @@ abbrev pub most_steps : ℕ
 most_steps = 4096
 
 -- steps lead from one moment to another, each made where the state before it is such
-abbrev pub StepsWhile : (State → Type 0) → Site → List Step → Site → Type 0
-StepsWhile such site [] later = site ≡ later
-StepsWhile such site (step ∷ steps) later =
-    such site.serial.state × (next : Site) × Steps site step next × StepsWhile such next steps later
+abbrev pub StepsWhile : (State → Type 0) → SerialWorld → List Step → SerialWorld → Type 0
+StepsWhile such world [] later = world ≡ later
+StepsWhile such world (step ∷ steps) later =
+    such world.serial.state × (next : SerialWorld) × Steps world step next × StepsWhile such next steps later
 
 -- steps lead from one moment to another
-abbrev pub StepsTo : Site → List Step → Site → Type 0
+abbrev pub StepsTo : SerialWorld → List Step → SerialWorld → Type 0
 StepsTo = StepsWhile (λ state. Unit {0})
 
 -- steps until nothing is live
-pub record Finishes (site : Site) (steps : List Step) (later : Site) : Type 0 where
-  pub made : StepsWhile (λ state. state.operations.live ≢ []) site steps later
+pub record Finishes (world : SerialWorld) (steps : List Step) (later : SerialWorld) : Type 0 where
+  pub made : StepsWhile (λ state. state.operations.live ≢ []) world steps later
   pub done : later.serial.state.operations.live ≡ []
 
 -- steps until an operation has ended
-pub record WaitsFor (number : ℕ) (site : Site) (steps : List Step) (later : Site) : Type 0 where
-  pub made : StepsWhile (λ state. live_at state.operations number ≢ None) site steps later
+pub record WaitsFor (number : ℕ) (world : SerialWorld) (steps : List Step) (later : SerialWorld) : Type 0 where
+  pub made : StepsWhile (λ state. live_at state.operations number ≢ None) world steps later
   pub done : live_at later.serial.state.operations number ≡ None

@@ -1,11 +1,11 @@
 ghost use Rattle.std.specs.Prelude.{◌≡◌, ◌≤◌, ◌↔◌, IsTrue, List, [], None, Option, is_some, length};
 ghost use Rattle.machine_laws.specs.Waits.{IsAlone};
-ghost use Rattle.operations.specs.Kept.{live_at};
+ghost use Rattle.operations.specs.OperationTable.{live_at};
 ghost use Rattle.row_machine.specs.declared.events.Event.TheVariants as event;
 ghost use Rattle.row_machine.specs.facts.Whole.{IsWhole};
 ghost use Rattle.core_turns.specs.Turns.{IsServed, IsTurn, without_notices};
 ghost use Rattle.serial_steps.specs.Steps.{Finishes, Step, Steps, StepsTo, WaitsFor, most_steps};
-ghost use Rattle.serial_steps.specs.Steps.{hosted, number_in, serial, site};
+ghost use Rattle.serial_steps.specs.Steps.{hosted, number_in, serial, serial_world};
 
 use crate::worker::{facts_hold, go_on};
 use core_turns::Daemon;
@@ -14,7 +14,7 @@ use http_front::Clock;
 use record_keeper::Keeper;
 use records::Command;
 use row_machine::Answer;
-use row_readings::View;
+use row_readings::StateRef;
 use std::alloc::Global;
 use std::marker::Model;
 use std::mem;
@@ -80,7 +80,7 @@ impl SerialDaemon {
     }
 
     /// The rows and operations, to be read, without the notices.
-    pub fn view(&self) -> View<'_>
+    pub fn view(&self) -> StateRef<'_>
         ensures rows { result ≡ without_notices self.now.state }
         ensures whole { IsWhole self.now.state }
     {
@@ -110,10 +110,10 @@ impl SerialDaemon {
         clock: &mut C,
     )
         ensures { (s : Step) × Steps
-            (site self.old (R.store keeper.old) (hosted H.told H.failures host.old)
+            (serial_world self.old (R.store keeper.old) (hosted H.contents H.failures host.old)
             (C.readings clock.old))
             s
-            (site self.new (R.store keeper.new) (hosted H.told H.failures host.new)
+            (serial_world self.new (R.store keeper.new) (hosted H.contents H.failures host.new)
             (C.readings clock.new)) }
     {
         facts_hold(&self.daemon);
@@ -133,10 +133,10 @@ impl SerialDaemon {
         count: u32,
     )
         ensures { (steps : List Step) × (length steps ≡ count) × StepsTo
-            (site self.old (R.store keeper.old) (hosted H.told H.failures host.old)
+            (serial_world self.old (R.store keeper.old) (hosted H.contents H.failures host.old)
             (C.readings clock.old))
             steps
-            (site self.new (R.store keeper.new) (hosted H.told H.failures host.new)
+            (serial_world self.new (R.store keeper.new) (hosted H.contents H.failures host.new)
             (C.readings clock.new)) }
     {
         for made in 0..count {
@@ -153,10 +153,10 @@ impl SerialDaemon {
         clock: &mut C,
     )
         ensures { (steps : List Step) × Finishes
-            (site self.old (R.store keeper.old) (hosted H.told H.failures host.old)
+            (serial_world self.old (R.store keeper.old) (hosted H.contents H.failures host.old)
             (C.readings clock.old))
             steps
-            (site self.new (R.store keeper.new) (hosted H.told H.failures host.new)
+            (serial_world self.new (R.store keeper.new) (hosted H.contents H.failures host.new)
             (C.readings clock.new))
             × (length steps ≤ most_steps) }
     {
@@ -180,10 +180,10 @@ impl SerialDaemon {
         number: u64,
     )
         ensures { (steps : List Step) × WaitsFor number
-            (site self.old (R.store keeper.old) (hosted H.told H.failures host.old)
+            (serial_world self.old (R.store keeper.old) (hosted H.contents H.failures host.old)
             (C.readings clock.old))
             steps
-            (site self.new (R.store keeper.new) (hosted H.told H.failures host.new)
+            (serial_world self.new (R.store keeper.new) (hosted H.contents H.failures host.new)
             (C.readings clock.new))
             × (length steps ≤ most_steps) }
     {

@@ -3,7 +3,7 @@ ghost use Rattle.std.specs.Prelude.{◌≡◌, None, Some};
 ghost use Rattle.host_model.specs.declared.call.HostCall.{HostCall as HostCallValue};
 ghost use Rattle.record_keeper.specs.Store.{Store};
 ghost use Rattle.row_machine.specs.facts.Whole.{IsWhole};
-ghost use Rattle.serial_steps.specs.Steps.{Hosted, Step, Steps, hosted, job_of, serial, site};
+ghost use Rattle.serial_steps.specs.Steps.{Hosted, Step, Steps, hosted, job_of, serial, serial_world};
 
 use core_turns::Daemon;
 use host_model::{Host, HostCall, perform};
@@ -35,8 +35,8 @@ fn job_of(answer: Answer) -> Option<(u64, HostCall)>
 /// Asks for a call to make.
 fn take_call<C: Clock>(daemon: &mut Daemon, clock: &mut C) -> Option<(u64, HostCall)>
     ensures { (store : Store) (host : Hosted)
-        → (s : Step) × Steps (site (serial daemon.old None) store host (C.readings clock.old)) s
-        (site (serial daemon.new result) store host (C.readings clock.new)) }
+        → (s : Step) × Steps (serial_world (serial daemon.old None) store host (C.readings clock.old)) s
+        (serial_world (serial daemon.new result) store host (C.readings clock.new)) }
 {
     let moment = clock.now();
     let answer = daemon.take(moment);
@@ -55,10 +55,10 @@ fn make_call<R: Keeper, H: Host, C: Clock>(
     call: HostCall,
 ) -> Option<(u64, HostCall)>
     ensures { (s : Step) × Steps
-        (site (serial daemon.old (Some (number, call))) (R.store keeper.old)
-        (hosted H.told H.failures host.old) (C.readings clock.old))
+        (serial_world (serial daemon.old (Some (number, call))) (R.store keeper.old)
+        (hosted H.contents H.failures host.old) (C.readings clock.old))
         s
-        (site (serial daemon.new result) (R.store keeper.new) (hosted H.told H.failures host.new)
+        (serial_world (serial daemon.new result) (R.store keeper.new) (hosted H.contents H.failures host.new)
         (C.readings clock.new)) }
 {
     let report = perform(host, &call);
@@ -79,10 +79,10 @@ pub fn go_on<R: Keeper, H: Host, C: Clock>(
     hand: Option<(u64, HostCall)>,
 ) -> Option<(u64, HostCall)>
     ensures { (s : Step) × Steps
-        (site (serial daemon.old hand) (R.store keeper.old) (hosted H.told H.failures host.old)
+        (serial_world (serial daemon.old hand) (R.store keeper.old) (hosted H.contents H.failures host.old)
         (C.readings clock.old))
         s
-        (site (serial daemon.new result) (R.store keeper.new) (hosted H.told H.failures host.new)
+        (serial_world (serial daemon.new result) (R.store keeper.new) (hosted H.contents H.failures host.new)
         (C.readings clock.new)) }
 {
     match hand {

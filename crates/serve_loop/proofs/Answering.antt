@@ -14,7 +14,7 @@ use Rattle.row_machine.specs.machine.Accept.{accepted, cancel_or_read, carried_o
 use Rattle.row_machine.specs.machine.Step.{Outcome, well, keeper_failed, no_memory, step, after_command}
 use Rattle.row_machine.specs.machine.Step.{unavailable}
 use Rattle.row_machine.specs.shown.Views.{read}
-use Rattle.gates.specs.Trails.{MayAnswer}
+use Rattle.gates.specs.History.{MayAnswer}
 use Rattle.gates.specs.rest_answers.specs.Asked.{IsAtOnce, IsForClient}
 use Rattle.gates.specs.rest_answers.proofs.ForClients.{Speaks, turned_at_once, turned_for_client}
 use Rattle.gates.proofs.Answering.{may}

@@ -10,17 +10,17 @@ use Rattle.records.specs.declared.replies.Reply.{Reply}
 use Rattle.records.specs.declared.replies.Reply.TheVariants as reply
 use Rattle.gates.specs.core_judging.specs.Judged.{reply_for}
 use Rattle.gates.specs.Gates.{Seen, Walk}
-use Rattle.gates.proofs.Trailing.{between-none}
+use Rattle.gates.proofs.Histories.{between-none}
 use Rattle.rest_routes.specs.Answers.{IsDue}
 use Rattle.serve_loop.specs.Replying.{Reaches}
-use Rattle.serve_loop.specs.Waits.{ServeBy, replied, stand, unasked}
+use Rattle.serve_loop.specs.Waits.{ServeBy, replied, command_world, unasked}
 
 -- a command that was asked
 pub asked_reaches : {before after : Seen} {told told' : Readings} {r : Reply} (c : Command)
-    → Walk (ServeBy c) before after (stand unasked told) (stand (replied r) told')
+    → Walk (ServeBy c) before after (command_world unasked told) (command_world (replied r) told')
     → Reaches (Ok c) before after told told' r
 asked_reaches c walk = record {
-  trail = walk.trail;
+  history = walk.history;
   gate = walk.gate;
   handles = inr (record { command = c; is = refl; due = walk.due });
 }
@@ -29,7 +29,7 @@ asked_reaches c walk = record {
 pub refused_memory : (asks : Result Command Refusal) (s : Seen) (told : Readings)
     → Reaches asks s s told told reply.NoMemory
 refused_memory asks s told = record {
-  trail = [];
+  history = [];
   gate = between-none s;
   handles = inl (record { nothing = refl; unread = refl; why = inl refl });
 }
@@ -39,7 +39,7 @@ pub unrouted : (asks : Result Command Refusal) (why : Or Refusal) (s : Seen) (to
     → Reaches asks s s told told (reply_for why)
 unrouted asks or.NoMemory s told due = refused_memory asks s told
 unrouted asks (or.Why refusal) s told due = record {
-  trail = [];
+  history = [];
   gate = between-none s;
   handles = inl (record { nothing = refl; unread = refl; why = inr (refusal, due, refl) });
 }

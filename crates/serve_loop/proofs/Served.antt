@@ -8,46 +8,46 @@ use Rattle.http_heads.specs.declared.request.Request.{Request}
 use Rattle.http_front.specs.Reading.{ReadsNext}
 use Rattle.http_front.specs.declared.read.Got.TheVariants as got
 use Rattle.gates.specs.Gates.{Between}
-use Rattle.gates.proofs.Trailing.{between-append, between-none}
+use Rattle.gates.proofs.Histories.{between-append, between-none}
 use Rattle.serve_loop.specs.Subscriptions.{subscription_of}
 use Rattle.serve_loop.specs.declared.subscriptions.Subscription.{Subscription}
 use Rattle.gates.specs.rest_answers.specs.Texts.{printed}
 use Rattle.gates.specs.rest_answers.proofs.Linking.{appends_nothing, appends_twice}
 use Rattle.gates.specs.rest_answers.proofs.Splitting.{GoesOn, none_more, splits_after}
-use Rattle.serve_loop.specs.Serving.{Exchange, Line, Serves, ServesAll, Serving, Stops, Turns}
-use Rattle.serve_loop.specs.Texts.{HandlesAll, IsFault, ServesText, Sides, answered, answered_by, end_at, end_by}
+use Rattle.serve_loop.specs.Serving.{Exchange, LinkWorld, Serves, ServesAll, Serving, Stops, Turns}
+use Rattle.serve_loop.specs.Texts.{HandlesAll, IsFault, ServesText, ReplyWorld, answered, answered_by, end_at, end_by}
 use Rattle.serve_loop.specs.Texts.{end_due, printed_replies}
-use Rattle.serve_loop.specs.Texts.{requests_of, sides}
-use Rattle.serve_loop.specs.Texts.{text_at, trail_of}
+use Rattle.serve_loop.specs.Texts.{requests_of, reply_world}
+use Rattle.serve_loop.specs.Texts.{text_at, history_of}
 use Rattle.serve_loop.specs.declared.link.LinkEnd.{LinkEnd}
 use Rattle.serve_loop.specs.declared.link.LinkEnd.TheVariants as end
 use Rattle.serve_loop.specs.declared.link.Turn.TheVariants as turn
 
 -- the bytes to come: those held, and then those that the source has left
-abbrev pub input : Line → Option (List ℕ)
+abbrev pub input : LinkWorld → Option (List ℕ)
 input w = prepend_known w.held w.source.left
 
 -- what a link acts on
-abbrev pub sides_of : Line → Sides
-sides_of w = sides w.sink w.gate w.clock
+abbrev pub reply_world_of : LinkWorld → ReplyWorld
+reply_world_of w = reply_world w.sink w.gate w.clock
 
 -- ---- requests together
 
 -- What requests that were served come to in all: the bytes to come began with them, the sink took their replies in
 -- order, and they are all that was done at the gate and read of the clock.
-record Together (boot : ℕ) (w : Line) (xs : List Exchange) (w' : Line) : Type 0 where
+record Together (boot : ℕ) (w : LinkWorld) (xs : List Exchange) (w' : LinkWorld) : Type 0 where
   read : IfSome (input w) (λ bytes. (rest : List ℕ) × Begins bytes (requests_of xs) rest × (input w' ≡ Some rest))
   written : Appends w.sink.held w'.sink.held (printed_replies boot xs)
-  gate : Between (trail_of xs) w.gate w'.gate
+  gate : Between (history_of xs) w.gate w'.gate
   handles : HandlesAll boot w.clock xs w'.clock
 
 -- the bytes to come are as before
-same_input : (known : Option (List ℕ)) (w : Line) → input w ≡ known
+same_input : (known : Option (List ℕ)) (w : LinkWorld) → input w ≡ known
     → IfSome known (λ bytes. (rest : List ℕ) × Begins bytes [] rest × (input w ≡ Some rest))
 same_input None w is = tt
 same_input (Some bytes) w is = (bytes, refl, is)
 
-none_together : (boot : ℕ) (w : Line) → Together boot w [] w
+none_together : (boot : ℕ) (w : LinkWorld) → Together boot w [] w
 none_together boot w = record {
   read = same_input (input w) w refl;
   written = appends_nothing w.sink.held;
@@ -56,7 +56,7 @@ none_together boot w = record {
 }
 
 -- the bytes to come began with a request, and then with more of them
-reads_first : (next w' : Line) (e : Exchange) (more : List Exchange) (known : Option (List ℕ))
+reads_first : (next w' : LinkWorld) (e : Exchange) (more : List Exchange) (known : Option (List ℕ))
     → IfSome known (λ bytes. ReadsNext bytes (input next) next.held (got.Request e.request))
     → IfSome (input next) (λ bytes. (rest : List ℕ) × Begins bytes (requests_of more) rest × (input w' ≡ Some rest))
     → IfSome known (λ bytes. (rest : List ℕ) × Begins bytes (requests_of (e ∷ more)) rest × (input w' ≡ Some rest))
@@ -68,7 +68,7 @@ reads_first next w' e more (Some bytes) first follows =
     (rests.0, (first.0, first.1, rests.1), rests.2)
 
 -- one request, and then more of them
-first_together : (boot : ℕ) (w next w' : Line) (e : Exchange) (more : List Exchange) → Serves boot w next e
+first_together : (boot : ℕ) (w next w' : LinkWorld) (e : Exchange) (more : List Exchange) → Serves boot w next e
     → Together boot next more w' → Together boot w (e ∷ more) w'
 first_together boot w next w' e more serves follows = record {
   read = reads_first next w' e more (input w) serves.carries.asked.next follows.read;
@@ -79,7 +79,7 @@ first_together boot w next w' e more serves follows = record {
 }
 
 -- all that went on, and then some more
-all_together : (boot : ℕ) (w v w' : Line) (xs ys : List Exchange) → ServesAll boot w xs v → Together boot v ys w'
+all_together : (boot : ℕ) (w v w' : LinkWorld) (xs ys : List Exchange) → ServesAll boot w xs v → Together boot v ys w'
     → Together boot w (xs ++ ys) w'
 all_together boot w v w' [] ys same follows = subst (λ u. Together boot u ys w') (sym same) follows
 all_together boot w v w' (e ∷ xs) ys serves follows =
@@ -92,7 +92,7 @@ abbrev AreGoing : List Request → Type 0
 AreGoing [] = Unit {0}
 AreGoing (m ∷ more) = (subscription_of m ≡ None) × (m.last ≡ false) × AreGoing more
 
-served_going : (boot : ℕ) (w w' : Line) (xs : List Exchange) → ServesAll boot w xs w' → AreGoing (requests_of xs)
+served_going : (boot : ℕ) (w w' : LinkWorld) (xs : List Exchange) → ServesAll boot w xs w' → AreGoing (requests_of xs)
 served_going boot w w' [] same = tt
 served_going boot w w' (e ∷ more) serves =
     (serves.1.carries.plain, serves.2, served_going boot serves.0 w' more serves.3)
@@ -146,12 +146,12 @@ requests-append (e ∷ xs) ys = ap (λ ms. e.request ∷ ms) (requests-append xs
 -- ---- links
 
 -- what is left of a text after requests
-record Behind (text : List ℕ) (xs : List Exchange) (w : Line) (messages : List Request) (ending : Ending) : Type 0 where
+record Behind (text : List ℕ) (xs : List Exchange) (w : LinkWorld) (messages : List Request) (ending : Ending) : Type 0 where
   rest : List ℕ
   input_is : input w ≡ Some rest
   goes_on : GoesOn rest (requests_of xs) messages ending
 
-reached : (boot : ℕ) (w v : Line) (xs : List Exchange) (text : List ℕ) (messages : List Request) (ending : Ending)
+reached : (boot : ℕ) (w v : LinkWorld) (xs : List Exchange) (text : List ℕ) (messages : List Request) (ending : Ending)
     → Together boot w xs v → input w ≡ Some text → Splits text messages ending → Behind text xs v messages ending
 reached boot w v xs text messages ending all is splits =
     let taken : (rest : List ℕ) × Begins text (requests_of xs) rest × (input v ≡ Some rest) =
@@ -164,12 +164,12 @@ reached boot w v xs text messages ending all is splits =
     }
 
 -- a link that ends with its input
-text_at_end : (boot : ℕ) (w v w' : Line) (xs : List Exchange) (text : List ℕ) (messages : List Request)
+text_at_end : (boot : ℕ) (w v w' : LinkWorld) (xs : List Exchange) (text : List ℕ) (messages : List Request)
     (ending other : Ending) → Together boot w xs v → AreGoing (requests_of xs) → input w ≡ Some text
     → Splits text messages ending → w'.gate ≡ v.gate → w'.clock ≡ v.clock
     → ((rest : List ℕ) → input v ≡ Some rest → EndsAs rest other)
     → Appends v.sink.held w'.sink.held (text_at (end_at other))
-    → ServesText boot messages ending (end_at other) (sides_of w) (sides_of w')
+    → ServesText boot messages ending (end_at other) (reply_world_of w) (reply_world_of w')
 text_at_end boot w v w' xs text messages ending other all going is splits gate clock stands written =
     let far : Behind text xs v messages ending = reached boot w v xs text messages ending all is splits in
     let none : (far.goes_on.more ≡ []) × (ending ≡ other) = none_more far.rest far.goes_on.more ending other
@@ -180,7 +180,7 @@ text_at_end boot w v w' xs text messages ending other all going is splits gate c
       exchanges = xs;
       requests_are = sym (ap answered (are ∙ sym (append-nil (requests_of xs)))
           ∙ answered_going (requests_of xs) [] going ∙ append-nil (requests_of xs));
-      gate = subst (λ g. Between (trail_of xs) w.gate g) (sym gate) all.gate;
+      gate = subst (λ g. Between (history_of xs) w.gate g) (sym gate) all.gate;
       handles = subst (λ told. HandlesAll boot w.clock xs told) (sym clock) all.handles;
       end_is = ap end_at (sym none.1)
           ∙ sym (ap (λ ms. end_due ms ending) (are ∙ sym (append-nil (requests_of xs)))
@@ -190,9 +190,9 @@ text_at_end boot w v w' xs text messages ending other all going is splits gate c
     }
 
 -- a link that ends after a final request
-text_at_final : (boot : ℕ) (w v w' : Line) (xs : List Exchange) (text : List ℕ) (messages : List Request)
+text_at_final : (boot : ℕ) (w v w' : LinkWorld) (xs : List Exchange) (text : List ℕ) (messages : List Request)
     (ending : Ending) → ServesAll boot w xs v → Turns boot turn.Final v w' → input w ≡ Some text
-    → Splits text messages ending → ServesText boot messages ending end.Ended (sides_of w) (sides_of w')
+    → Splits text messages ending → ServesText boot messages ending end.Ended (reply_world_of w) (reply_world_of w')
 text_at_final boot w v w' xs text messages ending serves final is splits =
     let all : Together boot w (xs ++ final.0 ∷ []) w' = all_together boot w v w' xs (final.0 ∷ []) serves
     (first_together boot v w' w' final.0 [] final.1 (none_together boot w')) in
@@ -222,14 +222,14 @@ at_known : (P : List ℕ → Type 0) (known : Option (List ℕ)) → IfSome know
 at_known P known holds rest is = subst (λ k. IfSome k P) is holds
 
 -- a link that took nothing more
-same_sink : (v w' : Line) → w'.sink ≡ v.sink → Appends v.sink.held w'.sink.held []
+same_sink : (v w' : LinkWorld) → w'.sink ≡ v.sink → Appends v.sink.held w'.sink.held []
 same_sink v w' same = subst (λ s. Appends v.sink.held s.held []) (sym same) (appends_nothing v.sink.held)
 
 -- a link that ends at a request that subscribes to events
-text_at_events : (boot : ℕ) (w v w' : Line) (xs : List Exchange) (text : List ℕ) (messages : List Request)
+text_at_events : (boot : ℕ) (w v w' : LinkWorld) (xs : List Exchange) (text : List ℕ) (messages : List Request)
     (ending : Ending) (wanted : Subscription) → Together boot w xs v → AreGoing (requests_of xs)
     → Stops boot (end.Events wanted) v w' → input w ≡ Some text → Splits text messages ending
-    → ServesText boot messages ending (end.Events wanted) (sides_of w) (sides_of w')
+    → ServesText boot messages ending (end.Events wanted) (reply_world_of w) (reply_world_of w')
 text_at_events boot w v w' xs text messages ending wanted all going stops is splits =
     let far : Behind text xs v messages ending = reached boot w v xs text messages ending all is splits in
     let taken : ReadsNext far.rest (input w') w'.held (got.Request stops.0) =
@@ -244,7 +244,7 @@ text_at_events boot w v w' xs text messages ending wanted all going stops is spl
       exchanges = xs;
       requests_are = sym (ap answered are
           ∙ answered_events (requests_of xs) stops.0 next.more wanted going stops.2);
-      gate = subst (λ g. Between (trail_of xs) w.gate g) (sym stops.3.gate) all.gate;
+      gate = subst (λ g. Between (history_of xs) w.gate g) (sym stops.3.gate) all.gate;
       handles = subst (λ told. HandlesAll boot w.clock xs told) (sym stops.3.clock) all.handles;
       end_is = sym (ap (λ ms. end_due ms ending) are
           ∙ due_events (requests_of xs) stops.0 next.more wanted ending going stops.2);
@@ -253,9 +253,9 @@ text_at_events boot w v w' xs text messages ending wanted all going stops is spl
     }
 
 -- a link did what its input asks, or ended by a fault
-pub link_text : (boot : ℕ) (w w' : Line) (ends : LinkEnd) (text : List ℕ) (messages : List Request) (ending : Ending)
+pub link_text : (boot : ℕ) (w w' : LinkWorld) (ends : LinkEnd) (text : List ℕ) (messages : List Request) (ending : Ending)
     → Serving boot w w' ends → input w ≡ Some text → Splits text messages ending
-    → IsFault ends ⊎ ServesText boot messages ending ends (sides_of w) (sides_of w')
+    → IsFault ends ⊎ ServesText boot messages ending ends (reply_world_of w) (reply_world_of w')
 link_text boot w w' ends text messages ending s is splits = by ends s.stops where
   all : Together boot w (s.exchanges ++ []) s.reached
   all = all_together boot w s.reached s.reached s.exchanges [] s.serves (none_together boot s.reached)
@@ -267,7 +267,7 @@ link_text boot w w' ends text messages ending s is splits = by ends s.stops wher
   going = served_going boot w s.reached s.exchanges s.serves
 
   by : (ends : LinkEnd) → ((ends ≡ end.Ended) × Turns boot turn.Final s.reached w') ⊎ Stops boot ends s.reached w'
-      → IsFault ends ⊎ ServesText boot messages ending ends (sides_of w) (sides_of w')
+      → IsFault ends ⊎ ServesText boot messages ending ends (reply_world_of w) (reply_world_of w')
   by end.Ended (inl (same, final)) =
       inr (text_at_final boot w s.reached w' s.exchanges text messages ending s.serves final is splits)
   by end.Ended (inr stops) = inr (
@@ -308,13 +308,13 @@ nothing_held None = refl
 nothing_held (Some bytes) = refl
 
 -- the same, where the source tells its bytes
-pub link_texts : (boot : ℕ) (w w' : Line) (ends : LinkEnd) → w.held ≡ [] → Serving boot w w' ends
+pub link_texts : (boot : ℕ) (w w' : LinkWorld) (ends : LinkEnd) → w.held ≡ [] → Serving boot w w' ends
     → IfSome w.source.left (λ text. (messages : List Request) (ending : Ending) → Splits text messages ending
-    → IsFault ends ⊎ ServesText boot messages ending ends (sides_of w) (sides_of w'))
+    → IsFault ends ⊎ ServesText boot messages ending ends (reply_world_of w) (reply_world_of w'))
 link_texts boot w w' ends none s = by w.source.left refl where
   by : (known : Option (List ℕ)) → w.source.left ≡ known
       → IfSome known (λ text. (messages : List Request) (ending : Ending) → Splits text messages ending
-      → IsFault ends ⊎ ServesText boot messages ending ends (sides_of w) (sides_of w'))
+      → IsFault ends ⊎ ServesText boot messages ending ends (reply_world_of w) (reply_world_of w'))
   by None is = tt
   by (Some text) is = λ messages ending splits.
       link_text boot w w' ends text messages ending s

@@ -4,7 +4,7 @@ use Rattle.std.proofs.lemmas.List.{take-append-drop}
 use Rattle.size_values.specs.Causes.{Rose}
 use Rattle.gates.specs.rest_answers.specs.Links.{BreaksOff, Outlet, Takes}
 use Rattle.gates.specs.rest_answers.proofs.Linking.{appends_nothing, appends_twice}
-use Rattle.serve_loop.specs.Sessions.{Ends, Place, TakesFront}
+use Rattle.serve_loop.specs.Sessions.{Ends, SessionStage, TakesFront}
 use Rattle.serve_loop.specs.declared.session.SessionEnd.{SessionEnd}
 use Rattle.serve_loop.specs.declared.session.SessionEnd.TheVariants as end
 
@@ -66,10 +66,10 @@ pub rose_after : (a b c : ℕ) → a ≤ b → Rose b c → Rose a c
 rose_after a b c later rose = omega (arith, later, rose)
 
 -- one text, and then a session that ended so
-pub ends_after : (a b c : Outlet) (t u : List ℕ) (p : Place) (ends : SessionEnd) → Takes a b t → Ends ends p b c u
+pub ends_after : (a b c : Outlet) (t u : List ℕ) (p : SessionStage) (ends : SessionEnd) → Takes a b t → Ends ends p b c u
     → Ends ends p a c (t ++ u)
 ends_after a b c t u p (end.Lagged cursor oldest) takes ended = (ended.0, takes_twice takes ended.1)
-ends_after a b c t u p end.Rested takes ended = (ended.0, takes_twice takes ended.1)
+ends_after a b c t u p end.Idled takes ended = (ended.0, takes_twice takes ended.1)
 ends_after a b c t u p end.WriteFault takes ended =
     (front_after takes ended.0, rose_after a.failures b.failures c.failures takes.later ended.1)
 ends_after a b c t u p end.NoMemory takes ended = front_after takes ended

@@ -14,132 +14,132 @@ use Rattle.row_machine.specs.declared.events.Answer.TheVariants as answer
 use Rattle.row_machine.specs.declared.events.Event.TheVariants as event
 use Rattle.gates.specs.core_rows.specs.Asked.{answered}
 use Rattle.gates.specs.Gates.{Seen, Walk}
-use Rattle.gates.specs.Trails.{RestsTold, TurnsTold, capped}
-use Rattle.gates.proofs.Walking.{walk-append, walk-rest, walk-turn}
+use Rattle.gates.specs.History.{GateIdle, GateTurn, capped}
+use Rattle.gates.proofs.Walking.{walk-append, walk-idle, walk-turn}
 use Rattle.serve_loop.specs.Moments.{IsLate, deadline_by, deadline_of}
-use Rattle.serve_loop.specs.Waits.{Brings, Looked, Place, Sees, ServeBy, Stand, after_rest, due, looking}
-use Rattle.serve_loop.specs.Waits.{most_rests, replied}
-use Rattle.serve_loop.specs.Waits.{stand, unasked, wait_in, wait_of, waiting}
+use Rattle.serve_loop.specs.Waits.{Brings, Looked, CommandStage, Sees, ServeBy, CommandWorld, after_idle, due, looking}
+use Rattle.serve_loop.specs.Waits.{most_idles, replied}
+use Rattle.serve_loop.specs.Waits.{command_world, unasked, wait_in, wait_of, waiting}
 use Rattle.serve_loop.specs.declared.wait.Waiting.{Waiting}
 
 -- ---- looks
 
-looked_sees : (op : ℕ) (deadline : Option ℕ) (rests : ℕ) (a : Answer) (live : Bool) → Looked a live
-    → Sees op deadline rests a (cond live (waiting op deadline rests) (due op))
-looked_sees op deadline rests (answer.NotYet number) live is = ap (λ b. cond b (waiting op deadline rests) (due op)) is
-looked_sees op deadline rests (answer.Ended number) live is = ap (λ b. cond b (waiting op deadline rests) (due op)) is
-looked_sees op deadline rests (answer.Reply r) live is = absurd is
-looked_sees op deadline rests (answer.Hold number) live is = absurd is
-looked_sees op deadline rests (answer.Job number call) live is = absurd is
-looked_sees op deadline rests answer.NoJob live is = absurd is
-looked_sees op deadline rests (answer.Stray number) live is = absurd is
-looked_sees op deadline rests (answer.Fetched fetched) live is = absurd is
-looked_sees op deadline rests answer.Closed live is = absurd is
-looked_sees op deadline rests answer.NoMemory live is = absurd is
+looked_sees : (op : ℕ) (deadline : Option ℕ) (idles : ℕ) (a : Answer) (live : Bool) → Looked a live
+    → Sees op deadline idles a (cond live (waiting op deadline idles) (due op))
+looked_sees op deadline idles (answer.NotYet number) live is = ap (λ b. cond b (waiting op deadline idles) (due op)) is
+looked_sees op deadline idles (answer.Ended number) live is = ap (λ b. cond b (waiting op deadline idles) (due op)) is
+looked_sees op deadline idles (answer.Reply r) live is = absurd is
+looked_sees op deadline idles (answer.Hold number) live is = absurd is
+looked_sees op deadline idles (answer.Job number call) live is = absurd is
+looked_sees op deadline idles answer.NoJob live is = absurd is
+looked_sees op deadline idles (answer.Stray number) live is = absurd is
+looked_sees op deadline idles (answer.Fetched fetched) live is = absurd is
+looked_sees op deadline idles answer.Closed live is = absurd is
+looked_sees op deadline idles answer.NoMemory live is = absurd is
 
-pub looks : {old new : Seen} {op : ℕ} {a : Answer} (c : Command) (deadline : Option ℕ) (rests : ℕ)
+pub looks : {old new : Seen} {op : ℕ} {a : Answer} (c : Command) (deadline : Option ℕ) (idles : ℕ)
     (clock : Readings) (live : Bool)
-    → TurnsTold old.told (event.Look op) a new.told → new.turned ≡ capped (old.turned + 1)
-    → new.rested ≡ old.rested → Looked a live
-    → Walk (ServeBy c) old new (stand (looking op deadline rests) clock)
-    (stand (cond live (waiting op deadline rests) (due op)) clock)
-looks {old} {new} {op} {a} c deadline rests clock live turn turned rested looked =
-    walk-turn (ServeBy c) (stand (looking op deadline rests) clock)
-    (stand (cond live (waiting op deadline rests) (due op)) clock) turn turned rested (record {
+    → GateTurn old.contents (event.Look op) a new.contents → new.turned ≡ capped (old.turned + 1)
+    → new.idled ≡ old.idled → Looked a live
+    → Walk (ServeBy c) old new (command_world (looking op deadline idles) clock)
+    (command_world (cond live (waiting op deadline idles) (due op)) clock)
+looks {old} {new} {op} {a} c deadline idles clock live turn turned idled looked =
+    walk-turn (ServeBy c) (command_world (looking op deadline idles) clock)
+    (command_world (cond live (waiting op deadline idles) (due op)) clock) turn turned idled (record {
       looks = refl;
       clock = refl;
-      sees = looked_sees op deadline rests a live looked;
+      sees = looked_sees op deadline idles a live looked;
     })
 
--- ---- rests
+-- ---- idling
 
-pub rests : {old new : Seen} {told told' : Readings} {op : ℕ} {deadline : Option ℕ} {made : ℕ}
+pub idles : {old new : Seen} {told told' : Readings} {op : ℕ} {deadline : Option ℕ} {made : ℕ}
     (c : Command) (late : Bool)
-    → RestsTold old.told new.told → new.turned ≡ old.turned → new.rested ≡ capped (old.rested + 1)
+    → GateIdle old.contents new.contents → new.turned ≡ old.turned → new.idled ≡ capped (old.idled + 1)
     → IsLate deadline told late told'
-    → Walk (ServeBy c) old new (stand (waiting op deadline made) told)
-    (stand (after_rest op deadline (made + 1) late) told')
-rests {old} {new} {told} {told'} {op} {deadline} {made} c late rest turned rested is =
-    walk-rest (ServeBy c) (stand (waiting op deadline made) told)
-    (stand (after_rest op deadline (made + 1) late) told') rest turned rested
-    (record { late = late; clock = is; place = refl })
+    → Walk (ServeBy c) old new (command_world (waiting op deadline made) told)
+    (command_world (after_idle op deadline (made + 1) late) told')
+idles {old} {new} {told} {told'} {op} {deadline} {made} c late idle turned idled is =
+    walk-idle (ServeBy c) (command_world (waiting op deadline made) told)
+    (command_world (after_idle op deadline (made + 1) late) told') idle turned idled
+    (record { late = late; clock = is; stage = refl })
 
--- before the most rests, and with the deadline not reached, the operation is looked at once more
-pub looking_on : (op : ℕ) (deadline : Option ℕ) (rests : ℕ) → rests < most_rests
-    → after_rest op deadline rests false ≡ looking op deadline rests
-looking_on op deadline rests few = ap (λ full. cond full (due op) (looking op deadline rests)) below where
-  below : (rests == most_rests) ≡ false
+-- before it idled the most times, and with the deadline not reached, the operation is looked at once more
+pub looking_on : (op : ℕ) (deadline : Option ℕ) (idles : ℕ) → idles < most_idles
+    → after_idle op deadline idles false ≡ looking op deadline idles
+looking_on op deadline idles few = ap (λ full. cond full (due op) (looking op deadline idles)) below where
+  below : (idles == most_idles) ≡ false
   below = grind (arith, nat_tests)
 
 -- ---- one round of a wait
 
 -- the operation was not live
-pub round_ends : {a b d : Seen} {from : Stand} {op : ℕ} {deadline : Option ℕ} {made : ℕ} {clock : Readings}
-    {live : Bool} (c : Command) → made < most_rests
-    → Walk (ServeBy c) a b from (stand (after_rest op deadline made false) clock)
-    → Walk (ServeBy c) b d (stand (looking op deadline made) clock)
-    (stand (cond live (waiting op deadline made) (due op)) clock) → live ≡ false
-    → Walk (ServeBy c) a d from (stand (due op) clock)
+pub round_ends : {a b d : Seen} {from : CommandWorld} {op : ℕ} {deadline : Option ℕ} {made : ℕ} {clock : Readings}
+    {live : Bool} (c : Command) → made < most_idles
+    → Walk (ServeBy c) a b from (command_world (after_idle op deadline made false) clock)
+    → Walk (ServeBy c) b d (command_world (looking op deadline made) clock)
+    (command_world (cond live (waiting op deadline made) (due op)) clock) → live ≡ false
+    → Walk (ServeBy c) a d from (command_world (due op) clock)
 round_ends {a} {b} {d} {from} {op} {deadline} {made} {clock} {live} c few before look is =
-    walk-append (subst (λ p. Walk (ServeBy c) a b from (stand p clock)) (looking_on op deadline made few) before)
-    (subst (λ l. Walk (ServeBy c) b d (stand (looking op deadline made) clock)
-    (stand (cond l (waiting op deadline made) (due op)) clock)) is look)
+    walk-append (subst (λ p. Walk (ServeBy c) a b from (command_world p clock)) (looking_on op deadline made few) before)
+    (subst (λ l. Walk (ServeBy c) b d (command_world (looking op deadline made) clock)
+    (command_world (cond l (waiting op deadline made) (due op)) clock)) is look)
 
--- it was live, and a rest followed
-pub round_rests : {a b d e : Seen} {from : Stand} {op : ℕ} {deadline : Option ℕ} {made : ℕ} {clock clock' : Readings}
-    {live : Bool} (c : Command) (late : Bool) → made < most_rests
-    → Walk (ServeBy c) a b from (stand (after_rest op deadline made false) clock)
-    → Walk (ServeBy c) b d (stand (looking op deadline made) clock)
-    (stand (cond live (waiting op deadline made) (due op)) clock) → live ≡ true
-    → Walk (ServeBy c) d e (stand (waiting op deadline made) clock)
-    (stand (after_rest op deadline (made + 1) late) clock')
-    → Walk (ServeBy c) a e from (stand (after_rest op deadline (made + 1) late) clock')
-round_rests {a} {b} {d} {e} {from} {op} {deadline} {made} {clock} {clock'} {live} c late few before look is rest =
-    walk-append (subst (λ p. Walk (ServeBy c) a b from (stand p clock)) (looking_on op deadline made few) before)
-    (walk-append (subst (λ l. Walk (ServeBy c) b d (stand (looking op deadline made) clock)
-    (stand (cond l (waiting op deadline made) (due op)) clock)) is look) rest)
+-- it was live, and the gate idled
+pub round_idles : {a b d e : Seen} {from : CommandWorld} {op : ℕ} {deadline : Option ℕ} {made : ℕ} {clock clock' : Readings}
+    {live : Bool} (c : Command) (late : Bool) → made < most_idles
+    → Walk (ServeBy c) a b from (command_world (after_idle op deadline made false) clock)
+    → Walk (ServeBy c) b d (command_world (looking op deadline made) clock)
+    (command_world (cond live (waiting op deadline made) (due op)) clock) → live ≡ true
+    → Walk (ServeBy c) d e (command_world (waiting op deadline made) clock)
+    (command_world (after_idle op deadline (made + 1) late) clock')
+    → Walk (ServeBy c) a e from (command_world (after_idle op deadline (made + 1) late) clock')
+round_idles {a} {b} {d} {e} {from} {op} {deadline} {made} {clock} {clock'} {live} c late few before look is idle =
+    walk-append (subst (λ p. Walk (ServeBy c) a b from (command_world p clock)) (looking_on op deadline made few) before)
+    (walk-append (subst (λ l. Walk (ServeBy c) b d (command_world (looking op deadline made) clock)
+    (command_world (cond l (waiting op deadline made) (due op)) clock)) is look) idle)
 
--- after the most rests the wait is over
-spent : (op : ℕ) (deadline : Option ℕ) (rests : ℕ) → most_rests ≤ rests → rests ≤ most_rests
-    → after_rest op deadline rests false ≡ due op
-spent op deadline rests most few =
-    let is : most_rests ≡ rests = omega (arith, most, few) in
-    subst (λ n. after_rest op deadline n false ≡ due op) is refl
+-- after it idled the most times the wait is over
+spent : (op : ℕ) (deadline : Option ℕ) (idles : ℕ) → most_idles ≤ idles → idles ≤ most_idles
+    → after_idle op deadline idles false ≡ due op
+spent op deadline idles most few =
+    let is : most_idles ≡ idles = omega (arith, most, few) in
+    subst (λ n. after_idle op deadline n false ≡ due op) is refl
 
-pub wait_spent : {a b : Seen} {from : Stand} {clock : Readings} (c : Command) (op : ℕ) (deadline : Option ℕ)
-    (made : ℕ) → most_rests ≤ made → made ≤ most_rests
-    → Walk (ServeBy c) a b from (stand (after_rest op deadline made false) clock)
-    → Walk (ServeBy c) a b from (stand (due op) clock)
+pub wait_spent : {a b : Seen} {from : CommandWorld} {clock : Readings} (c : Command) (op : ℕ) (deadline : Option ℕ)
+    (made : ℕ) → most_idles ≤ made → made ≤ most_idles
+    → Walk (ServeBy c) a b from (command_world (after_idle op deadline made false) clock)
+    → Walk (ServeBy c) a b from (command_world (due op) clock)
 wait_spent {a} {b} {from} {clock} c op deadline made most few walk =
-    subst (λ p. Walk (ServeBy c) a b from (stand p clock)) (spent op deadline made most few) walk
+    subst (λ p. Walk (ServeBy c) a b from (command_world p clock)) (spent op deadline made most few) walk
 
 -- ---- the reply after a wait
 
 pub shows : {old new : Seen} {told told' : Readings} {moment op : ℕ} {a : Answer} {r : Reply} {project : List ℕ}
     (c : Command) → c.project ≡ project
     → Reads told (moment ∷ []) told' → moment < moment_limit
-    → TurnsTold old.told (event.Ask (record { project = project; what = what.GetOp op }) moment) a new.told
-    → new.turned ≡ capped (old.turned + 1) → new.rested ≡ old.rested → answered r ≡ a
-    → Walk (ServeBy c) old new (stand (due op) told) (stand (replied r) told')
-shows {old} {new} {told} {told'} {moment} {op} {a} {r} {project} c is read early turn turned rested answers =
-    walk-turn (ServeBy c) (stand (due op) told) (stand (replied r) told') turn turned rested (record {
+    → GateTurn old.contents (event.Ask (record { project = project; what = what.GetOp op }) moment) a new.contents
+    → new.turned ≡ capped (old.turned + 1) → new.idled ≡ old.idled → answered r ≡ a
+    → Walk (ServeBy c) old new (command_world (due op) told) (command_world (replied r) told')
+shows {old} {new} {told} {told'} {moment} {op} {a} {r} {project} c is read early turn turned idled answers =
+    walk-turn (ServeBy c) (command_world (due op) told) (command_world (replied r) told') turn turned idled (record {
       moment = moment;
       reply = r;
       asks = ap (λ p. event.Ask (record { project = p; what = what.GetOp op }) moment) (sym is);
       clock = record { read = read; early = early };
       answers = answers;
-      place = refl;
+      stage = refl;
     })
 
 -- ---- the first answer
 
 -- a command was asked, and was answered so
-pub asks : {old new : Seen} {told told' : Readings} {moment : ℕ} {a : Answer} {p : Place} (c : Command)
-    → Reads told (moment ∷ []) told' → moment < moment_limit → TurnsTold old.told (event.Ask c moment) a new.told
-    → new.turned ≡ capped (old.turned + 1) → new.rested ≡ old.rested → Brings c.what moment a p
-    → Walk (ServeBy c) old new (stand unasked told) (stand p told')
-asks {old} {new} {told} {told'} {moment} {a} {p} c read early turn turned rested brings =
-    walk-turn (ServeBy c) (stand unasked told) (stand p told') turn turned rested (record {
+pub asks : {old new : Seen} {told told' : Readings} {moment : ℕ} {a : Answer} {p : CommandStage} (c : Command)
+    → Reads told (moment ∷ []) told' → moment < moment_limit → GateTurn old.contents (event.Ask c moment) a new.contents
+    → new.turned ≡ capped (old.turned + 1) → new.idled ≡ old.idled → Brings c.what moment a p
+    → Walk (ServeBy c) old new (command_world unasked told) (command_world p told')
+asks {old} {new} {told} {told'} {moment} {a} {p} c read early turn turned idled brings =
+    walk-turn (ServeBy c) (command_world unasked told) (command_world p told') turn turned idled (record {
       moment = moment;
       asks = refl;
       clock = record { read = read; early = early };
@@ -199,12 +199,12 @@ kept_is c w is = record { project = (by c.what is).0; deadline = (by c.what is).
 -- the answer of a wait was held back, and then its operation was asked for
 pub held_back : {a b d : Seen} {told mid told' : Readings} {r : Reply} (c : Command) (w : Waiting) (op moment : ℕ)
     (deadline : Option ℕ) → Some w ≡ wait_of c → deadline ≡ deadline_of moment w.timeout
-    → Walk (ServeBy c) a b (stand (looking op deadline 0) told) (stand (due op) mid)
-    → (c.project ≡ w.project → Walk (ServeBy c) b d (stand (due op) mid) (stand (replied r) told'))
-    → Walk (ServeBy c) a d (stand (looking op (deadline_by moment c.what) 0) told) (stand (replied r) told')
+    → Walk (ServeBy c) a b (command_world (looking op deadline 0) told) (command_world (due op) mid)
+    → (c.project ≡ w.project → Walk (ServeBy c) b d (command_world (due op) mid) (command_world (replied r) told'))
+    → Walk (ServeBy c) a d (command_world (looking op (deadline_by moment c.what) 0) told) (command_world (replied r) told')
 held_back {a} {b} {d} {told} {mid} {told'} {r} c w op moment deadline is due_is waits shows =
     let kept : IsKept c w = kept_is c w is in
     walk-append
-    (subst (λ at. Walk (ServeBy c) a b (stand (looking op at 0) told) (stand (due op) mid))
+    (subst (λ at. Walk (ServeBy c) a b (command_world (looking op at 0) told) (command_world (due op) mid))
     (due_is ∙ sym (kept.deadline moment)) waits)
     (shows kept.project)

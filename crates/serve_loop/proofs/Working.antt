@@ -10,20 +10,20 @@ use Rattle.row_machine.specs.declared.events.Event.TheVariants as event
 use Rattle.gates.specs.serial_steps.specs.Steps.{Hosted}
 use Rattle.gates.specs.serial_steps.proofs.Stepping.{has-cause}
 use Rattle.gates.specs.Gates.{Seen, Walk}
-use Rattle.gates.specs.Trails.{RestsTold, TurnsTold, capped}
-use Rattle.gates.proofs.Walking.{walk-rest, walk-turn}
-use Rattle.serve_loop.specs.Work.{Gets, GoesOn, WorkBy, standing}
+use Rattle.gates.specs.History.{GateIdle, GateTurn, capped}
+use Rattle.gates.proofs.Walking.{walk-idle, walk-turn}
+use Rattle.serve_loop.specs.Work.{Gets, GoesOn, WorkBy, worker_world}
 use Rattle.serve_loop.specs.declared.worker.WorkerState.{WorkerState}
 use Rattle.serve_loop.specs.declared.worker.WorkerState.TheVariants as post
 
 -- a call was asked for
 pub takes : {old new : Seen} {told told' : Readings} {moment : ℕ} {a : Answer} {p : WorkerState} (host : Hosted)
     → Reads told (moment ∷ []) told' → moment < moment_limit
-    → TurnsTold old.told (event.Take moment) a new.told
-    → new.turned ≡ capped (old.turned + 1) → new.rested ≡ old.rested → Gets a p
-    → Walk WorkBy old new (standing post.Idle host told) (standing p host told')
-takes {old} {new} {told} {told'} {moment} {a} {p} host read early turn turned rested gets =
-    walk-turn WorkBy (standing post.Idle host told) (standing p host told') turn turned rested (record {
+    → GateTurn old.contents (event.Take moment) a new.contents
+    → new.turned ≡ capped (old.turned + 1) → new.idled ≡ old.idled → Gets a p
+    → Walk WorkBy old new (worker_world post.Asking host told) (worker_world p host told')
+takes {old} {new} {told} {told'} {moment} {a} {p} host read early turn turned idled gets =
+    walk-turn WorkBy (worker_world post.Asking host told) (worker_world p host told') turn turned idled (record {
       moment = moment;
       asks = refl;
       clock = record { read = read; early = early };
@@ -36,12 +36,12 @@ pub reports : {old new : Seen} {told told' : Readings} {moment number : ℕ} {ca
     {p : WorkerState} {before after : Hosted}
     → after.roots ≡ roots_after r call before.roots → CarriesCounts r before.failures after.failures
     → before.failures ≤ after.failures → Reads told (moment ∷ []) told' → moment < moment_limit
-    → TurnsTold old.told (event.Done number r moment) a new.told
-    → new.turned ≡ capped (old.turned + 1) → new.rested ≡ old.rested → GoesOn a p
-    → Walk WorkBy old new (standing (post.Busy number call) before told) (standing p after told')
+    → GateTurn old.contents (event.Done number r moment) a new.contents
+    → new.turned ≡ capped (old.turned + 1) → new.idled ≡ old.idled → GoesOn a p
+    → Walk WorkBy old new (worker_world (post.Busy number call) before told) (worker_world p after told')
 reports {old} {new} {told} {told'} {moment} {number} {call} {r} {a} {p} {before} {after} roots counts later read early
-    turn turned rested goes =
-    walk-turn WorkBy (standing (post.Busy number call) before told) (standing p after told') turn turned rested
+    turn turned idled goes =
+    walk-turn WorkBy (worker_world (post.Busy number call) before told) (worker_world p after told') turn turned idled
     (record {
       report = r;
       moment = moment;
@@ -54,9 +54,9 @@ reports {old} {new} {told} {told'} {moment} {number} {call} {r} {a} {p} {before}
       goes_on = goes;
     })
 
--- nothing waited, and a rest was made
-pub rests : {old new : Seen} (host : Hosted) (told : Readings) → RestsTold old.told new.told
-    → new.turned ≡ old.turned → new.rested ≡ capped (old.rested + 1)
-    → Walk WorkBy old new (standing post.Resting host told) (standing post.Idle host told)
-rests host told rest turned rested =
-    walk-rest WorkBy (standing post.Resting host told) (standing post.Idle host told) rest turned rested refl
+-- nothing waited, and the gate idled
+pub idles : {old new : Seen} (host : Hosted) (told : Readings) → GateIdle old.contents new.contents
+    → new.turned ≡ old.turned → new.idled ≡ capped (old.idled + 1)
+    → Walk WorkBy old new (worker_world post.Idling host told) (worker_world post.Asking host told)
+idles host told idle turned idled =
+    walk-idle WorkBy (worker_world post.Idling host told) (worker_world post.Asking host told) idle turned idled refl

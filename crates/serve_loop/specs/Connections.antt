@@ -4,7 +4,7 @@ use Rattle.http_front.specs.Clocks.{Readings}
 use Rattle.gates.specs.Gates.{Seen}
 use Rattle.gates.specs.rest_answers.specs.Links.{Inlet, Outlet}
 use Rattle.serve_loop.specs.declared.subscriptions.Subscription.{Subscription}
-use Rattle.serve_loop.specs.Serving.{Line, ServingFrom}
+use Rattle.serve_loop.specs.Serving.{LinkWorld, ServingFrom}
 use Rattle.serve_loop.specs.declared.link.LinkEnd.{LinkEnd}
 use Rattle.serve_loop.specs.declared.link.LinkEnd.TheVariants as end
 use Rattle.serve_loop.specs.Sessions.{Session}
@@ -18,7 +18,7 @@ IsNoSubscription (end.Events wanted) = ⊥
 IsNoSubscription other = Unit {0}
 
 -- a link that ended at a subscription, and then a session of this subscription
-pub record Subscribes (boot : ℕ) (start : Line) (source : Inlet) (sink : Outlet) (gate : Seen) (clock : Readings)
+pub record Subscribes (boot : ℕ) (start : LinkWorld) (source : Inlet) (sink : Outlet) (gate : Seen) (clock : Readings)
     (ends : SessionEnd) : Type 0 where
   pub wanted : Subscription
   pub sink_between : Outlet
@@ -26,8 +26,8 @@ pub record Subscribes (boot : ℕ) (start : Line) (source : Inlet) (sink : Outle
   pub link : ServingFrom boot start source sink_between gate_between clock (end.Events wanted)
   pub session : Session boot wanted.key wanted.filter gate_between sink_between gate sink ends
 
--- A connection from this line on, with the outside seen so at its end.
-abbrev pub Connects : ℕ → Line → Inlet → Outlet → Seen → Readings → ConnectionEnd → Type 0
+-- A connection from this world on, with the outside seen so at its end.
+abbrev pub Connects : ℕ → LinkWorld → Inlet → Outlet → Seen → Readings → ConnectionEnd → Type 0
 Connects boot start source sink gate clock (ended.Link ends) =
     IsNoSubscription ends × ServingFrom boot start source sink gate clock ends
 Connects boot start source sink gate clock (ended.Session ends) = Subscribes boot start source sink gate clock ends

@@ -6,7 +6,7 @@ use Rattle.operations.specs.declared.operation.OpFault.TheVariants as fault
 use Rattle.records.specs.declared.commands.Target.{Target}
 use Rattle.records.specs.declared.notices.Life.TheVariants as life
 use Rattle.records.specs.declared.notices.Notice.{Notice}
-use Rattle.records.specs.declared.notices.Told.TheVariants as told
+use Rattle.records.specs.declared.notices.EventBody.TheVariants as body
 use Rattle.rest_replies.specs.Notices.{notice_text}
 
 -- the instance `b`
@@ -19,7 +19,7 @@ started = record {
   number = 1;
   moment = 0;
   project = codes "lab";
-  told = told.Life life.InstanceStarted (codes "/1.0/instances/b?project=lab");
+  body = body.Life life.InstanceStarted (codes "/1.0/instances/b?project=lab");
 }
 
 abbrev pub started_text : List ℕ
@@ -33,7 +33,7 @@ accepted = record {
   number = 2;
   moment = 86400;
   project = codes "lab";
-  told = told.Op (record {
+  body = body.Op (record {
     number = 2;
     status = status.Pending;
     may_cancel = true;

@@ -10,11 +10,11 @@ use Rattle.http_front.specs.declared.read.Got.TheVariants as got
 use Rattle.records.specs.declared.replies.Reply.{Reply}
 use Rattle.records.specs.declared.replies.Reply.TheVariants as reply
 use Rattle.gates.specs.Gates.{Between, Seen}
-use Rattle.gates.specs.Trails.{Item}
+use Rattle.gates.specs.History.{Item}
 use Rattle.gates.specs.rest_answers.specs.Links.{BreaksOff, Inlet, Outlet, ReadsFrom, Takes}
 use Rattle.gates.specs.rest_answers.specs.Texts.{HasText, malformed_text, printed}
 use Rattle.gates.specs.rest_answers.specs.Writing.{WritesAnswer}
-use Rattle.gates.specs.rest_answers.specs.declared.answers.Answered.{Answered}
+use Rattle.gates.specs.rest_answers.specs.declared.answers.PrintedReply.{PrintedReply}
 use Rattle.gates.specs.rest_answers.specs.declared.writing.Written.{Written}
 use Rattle.gates.specs.rest_answers.specs.declared.writing.Written.TheVariants as ended
 use Rattle.rest_routes.specs.Commands.{command_of}
@@ -31,41 +31,42 @@ use Rattle.serve_loop.specs.declared.link.Turn.TheVariants as turn
 -- A request that was taken, what was done at the gate for it, and its reply.
 pub record Exchange : Type 0 where
   pub request : Request
-  pub trail : List Item
+  pub history : List Item
   pub reply : Reply
 
 -- what a link works on at one moment: the bytes that its buffer holds, its source and its sink, its gate, and what its
 -- clock tells
-pub record Line : Type 0 where
+pub record LinkWorld : Type 0 where
   pub held : List ℕ
   pub source : Inlet
   pub sink : Outlet
   pub gate : Seen
   pub clock : Readings
 
-abbrev pub line : List ℕ → Inlet → Outlet → Seen → Readings → Line
-line held source sink gate clock = record { held = held; source = source; sink = sink; gate = gate; clock = clock }
+abbrev pub link_world : List ℕ → Inlet → Outlet → Seen → Readings → LinkWorld
+link_world held source sink gate clock =
+    record { held = held; source = source; sink = sink; gate = gate; clock = clock }
 
 -- one call of `read_request` answered this of the bytes to come and of the bytes held
-abbrev pub Asks : Line → Line → Got → Type 0
-Asks line later answer = ReadsFrom line.held line.source answer later.held later.source
+abbrev pub Asks : LinkWorld → LinkWorld → Got → Type 0
+Asks world later answer = ReadsFrom world.held world.source answer later.held later.source
 
 -- nothing was done at the gate, and the clock was not read
-pub record KeepsGate (line later : Line) : Type 0 where
-  pub gate : later.gate ≡ line.gate
-  pub clock : later.clock ≡ line.clock
+pub record KeepsGate (world later : LinkWorld) : Type 0 where
+  pub gate : later.gate ≡ world.gate
+  pub clock : later.clock ≡ world.clock
 
 -- The next request was taken, subscribes to no events, and came to its reply.
-pub record CarriesOut (boot : ℕ) (line later : Line) (exchange : Exchange) : Type 0 where
-  pub asked : Asks line later (got.Request exchange.request)
+pub record CarriesOut (boot : ℕ) (world later : LinkWorld) (exchange : Exchange) : Type 0 where
+  pub asked : Asks world later (got.Request exchange.request)
   pub plain : subscription_of exchange.request ≡ None
-  pub gate : Between exchange.trail line.gate later.gate
-  pub handles : Handles (command_of exchange.request boot) line.clock exchange.trail exchange.reply later.clock
+  pub gate : Between exchange.history world.gate later.gate
+  pub handles : Handles (command_of exchange.request boot) world.clock exchange.history exchange.reply later.clock
 
 -- The next request was taken and came to its reply, which was written whole.
-pub record Serves (boot : ℕ) (line later : Line) (exchange : Exchange) : Type 0 where
-  pub carries : CarriesOut boot line later exchange
-  pub replied : Takes line.sink later.sink (printed exchange.reply boot exchange.request.last)
+pub record Serves (boot : ℕ) (world later : LinkWorld) (exchange : Exchange) : Type 0 where
+  pub carries : CarriesOut boot world later exchange
+  pub replied : Takes world.sink later.sink (printed exchange.reply boot exchange.request.last)
 
 -- ---- ends
 
@@ -73,61 +74,62 @@ pub record Serves (boot : ℕ) (line later : Line) (exchange : Exchange) : Type 
 -- the end of the source and at a failed read; its reply at a malformed place; a part of a reply where a write failed;
 -- where memory was refused, nothing is written, after a request was carried out, before, or before any was read; and at
 -- a request that subscribes to events, nothing was done of it.
-abbrev pub Stops : ℕ → LinkEnd → Line → Line → Type 0
-Stops boot end.Ended line later = Asks line later got.End × KeepsGate line later × (later.sink ≡ line.sink)
-Stops boot end.Cut line later =
-    (count : ℕ) × Asks line later (got.Cut count) × KeepsGate line later × (later.sink ≡ line.sink)
-Stops boot (end.Malformed fault) line later = Asks line later (got.Malformed fault) × KeepsGate line later
-    × Takes line.sink later.sink (malformed_text fault)
-Stops boot end.ReadFault line later = Asks line later got.ReadFault × KeepsGate line later × (later.sink ≡ line.sink)
-Stops boot end.WriteFault line later =
-    ((exchange : Exchange) × CarriesOut boot line later exchange
-    × BreaksOff line.sink later.sink (printed exchange.reply boot exchange.request.last))
-    ⊎ ((fault : HeadFault) × Asks line later (got.Malformed fault) × KeepsGate line later
-    × BreaksOff line.sink later.sink (malformed_text fault))
-Stops boot end.NoMemory line later =
-    (later ≡ line)
-    ⊎ (Asks line later got.NoMemory × KeepsGate line later × (later.sink ≡ line.sink))
-    ⊎ ((fault : HeadFault) × Asks line later (got.Malformed fault) × KeepsGate line later × (later.sink ≡ line.sink))
-    ⊎ ((exchange : Exchange) × CarriesOut boot line later exchange
-    × (exchange.reply ≢ reply.NoMemory) × (later.sink ≡ line.sink))
-    ⊎ ((request : Request) × Asks line later (got.Request request) × KeepsGate line later × (later.sink ≡ line.sink))
-Stops boot (end.Events wanted) line later = (request : Request) × Asks line later (got.Request request)
-    × (subscription_of request ≡ Some wanted) × KeepsGate line later × (later.sink ≡ line.sink)
+abbrev pub Stops : ℕ → LinkEnd → LinkWorld → LinkWorld → Type 0
+Stops boot end.Ended world later = Asks world later got.End × KeepsGate world later × (later.sink ≡ world.sink)
+Stops boot end.Cut world later =
+    (count : ℕ) × Asks world later (got.Cut count) × KeepsGate world later × (later.sink ≡ world.sink)
+Stops boot (end.Malformed fault) world later = Asks world later (got.Malformed fault) × KeepsGate world later
+    × Takes world.sink later.sink (malformed_text fault)
+Stops boot end.ReadFault world later =
+    Asks world later got.ReadFault × KeepsGate world later × (later.sink ≡ world.sink)
+Stops boot end.WriteFault world later =
+    ((exchange : Exchange) × CarriesOut boot world later exchange
+    × BreaksOff world.sink later.sink (printed exchange.reply boot exchange.request.last))
+    ⊎ ((fault : HeadFault) × Asks world later (got.Malformed fault) × KeepsGate world later
+    × BreaksOff world.sink later.sink (malformed_text fault))
+Stops boot end.NoMemory world later =
+    (later ≡ world)
+    ⊎ (Asks world later got.NoMemory × KeepsGate world later × (later.sink ≡ world.sink))
+    ⊎ ((fault : HeadFault) × Asks world later (got.Malformed fault) × KeepsGate world later × (later.sink ≡ world.sink))
+    ⊎ ((exchange : Exchange) × CarriesOut boot world later exchange
+    × (exchange.reply ≢ reply.NoMemory) × (later.sink ≡ world.sink))
+    ⊎ ((request : Request) × Asks world later (got.Request request) × KeepsGate world later × (later.sink ≡ world.sink))
+Stops boot (end.Events wanted) world later = (request : Request) × Asks world later (got.Request request)
+    × (subscription_of request ≡ Some wanted) × KeepsGate world later × (later.sink ≡ world.sink)
 
 -- one turn of a link: the next request was answered, or the link ends
-abbrev pub Turns : ℕ → Turn → Line → Line → Type 0
-Turns boot turn.GoOn line later =
-    (exchange : Exchange) × Serves boot line later exchange × (exchange.request.last ≡ false)
-Turns boot turn.Final line later =
-    (exchange : Exchange) × Serves boot line later exchange × (exchange.request.last ≡ true)
-Turns boot (turn.Stop ends) line later = Stops boot ends line later
+abbrev pub Turns : ℕ → Turn → LinkWorld → LinkWorld → Type 0
+Turns boot turn.GoOn world later =
+    (exchange : Exchange) × Serves boot world later exchange × (exchange.request.last ≡ false)
+Turns boot turn.Final world later =
+    (exchange : Exchange) × Serves boot world later exchange × (exchange.request.last ≡ true)
+Turns boot (turn.Stop ends) world later = Stops boot ends world later
 
 -- ---- a link
 
 -- requests were answered one after the other, and none of them is the last on its connection
-abbrev pub ServesAll : ℕ → Line → List Exchange → Line → Type 0
-ServesAll boot line [] later = line ≡ later
-ServesAll boot line (exchange ∷ more) later =
-    (next : Line) × Serves boot line next exchange × (exchange.request.last ≡ false)
+abbrev pub ServesAll : ℕ → LinkWorld → List Exchange → LinkWorld → Type 0
+ServesAll boot world [] later = world ≡ later
+ServesAll boot world (exchange ∷ more) later =
+    (next : LinkWorld) × Serves boot world next exchange × (exchange.request.last ≡ false)
     × ServesAll boot next more later
 
--- A link from one line to a later one: the requests that it answered whole and after which it went on, the line after
+-- A link from one world to a later one: the requests that it answered whole and after which it went on, the world after
 -- them, and how it ended there: by a final request, which was answered whole and is the last on its connection, or for
 -- another reason.
-pub record Serving (boot : ℕ) (line later : Line) (ends : LinkEnd) : Type 0 where
+pub record Serving (boot : ℕ) (world later : LinkWorld) (ends : LinkEnd) : Type 0 where
   pub exchanges : List Exchange
-  pub reached : Line
-  pub serves : ServesAll boot line exchanges reached
+  pub reached : LinkWorld
+  pub serves : ServesAll boot world exchanges reached
   pub stops : ((ends ≡ end.Ended) × Turns boot turn.Final reached later) ⊎ Stops boot ends reached later
 
--- A link from this line on, with the outside seen so at its end. What is still to come is what its buffer held, at most
--- one head, one body and one piece, and what the source has left.
-pub record ServingFrom (boot : ℕ) (start : Line) (source : Inlet) (sink : Outlet) (gate : Seen) (clock : Readings)
+-- A link from this world on, with the outside seen so at its end. What is still to come is what its buffer held, at
+-- most one head, one body and one piece, and what the source has left.
+pub record ServingFrom (boot : ℕ) (start : LinkWorld) (source : Inlet) (sink : Outlet) (gate : Seen) (clock : Readings)
     (ends : LinkEnd) : Type 0 where
   pub held : List ℕ
   pub few : length held ≤ most_held
-  pub serving : Serving boot start (line held source sink gate clock) ends
+  pub serving : Serving boot start (link_world held source sink gate clock) ends
 
 -- ---- the parts of a turn
 
@@ -148,7 +150,7 @@ end_after ended.NoMemory fault = end.NoMemory
 pub record Replies (boot : ℕ) (request : Request) (next : Turn) (sink sink' : Outlet) (gate gate' : Seen)
     (clock clock' : Readings) : Type 0 where
   pub reply : Reply
-  pub answered : Answered
+  pub answered : PrintedReply
   pub how : Written
   pub reaches : Reaches (command_of request boot) gate gate' clock clock' reply
   pub text : HasText answered reply boot request.last

@@ -7,7 +7,7 @@ use Rattle.http_heads.specs.Messages.{Ending, ended, cut, malformed}
 use Rattle.http_heads.specs.declared.request.Request.{Request}
 use Rattle.http_front.specs.Clocks.{Readings}
 use Rattle.gates.specs.Gates.{Between, Seen}
-use Rattle.gates.specs.Trails.{Item}
+use Rattle.gates.specs.History.{Item}
 use Rattle.gates.specs.rest_answers.specs.Links.{Outlet}
 use Rattle.gates.specs.rest_answers.specs.Texts.{malformed_text, printed}
 use Rattle.rest_routes.specs.Commands.{command_of}
@@ -27,14 +27,14 @@ abbrev pub printed_replies : ℕ → List Exchange → List ℕ
 printed_replies boot exchanges = flat_map (λ exchange. printed exchange.reply boot exchange.request.last) exchanges
 
 -- what was done at the gate, in its order
-abbrev pub trail_of : List Exchange → List Item
-trail_of exchanges = flat_map (λ exchange. exchange.trail) exchanges
+abbrev pub history_of : List Exchange → List Item
+history_of exchanges = flat_map (λ exchange. exchange.history) exchanges
 
 -- requests came to their replies one after the other, between these readings of the clock
 abbrev pub HandlesAll : ℕ → Readings → List Exchange → Readings → Type 0
 HandlesAll boot told [] told' = told' ≡ told
 HandlesAll boot told (exchange ∷ more) told' = (between : Readings)
-    × Handles (command_of exchange.request boot) told exchange.trail exchange.reply between
+    × Handles (command_of exchange.request boot) told exchange.history exchange.reply between
     × HandlesAll boot between more told'
 
 -- how a link ends that has answered all messages of its input
@@ -75,23 +75,23 @@ IsFault end.NoMemory = Unit {0}
 IsFault other = ⊥
 
 -- what a link acts on at one moment: its sink, its gate, and what its clock tells
-pub record Sides : Type 0 where
+pub record ReplyWorld : Type 0 where
   pub sink : Outlet
   pub gate : Seen
   pub clock : Readings
 
-abbrev pub sides : Outlet → Seen → Readings → Sides
-sides sink gate clock = record { sink = sink; gate = gate; clock = clock }
+abbrev pub reply_world : Outlet → Seen → Readings → ReplyWorld
+reply_world sink gate clock = record { sink = sink; gate = gate; clock = clock }
 
 -- The link did what its input asks, and nothing else. The requests up to and with the first that is the last on its
--- connection, or before the first that subscribes to events, are answered, each by the turns and rests that it is due.
+-- connection, or before the first that subscribes to events, are answered, each by the turns and idles that it is due.
 -- These are all that was done at the gate, and the clock was read for nothing else. The end is the one that is due,
 -- and the sink took the replies in their order.
-pub record ServesText (boot : ℕ) (messages : List Request) (ending : Ending) (ends : LinkEnd) (sides later : Sides)
+pub record ServesText (boot : ℕ) (messages : List Request) (ending : Ending) (ends : LinkEnd) (world later : ReplyWorld)
     : Type 0 where
   pub exchanges : List Exchange
   pub requests_are : requests_of exchanges ≡ answered messages
-  pub gate : Between (trail_of exchanges) sides.gate later.gate
-  pub handles : HandlesAll boot sides.clock exchanges later.clock
+  pub gate : Between (history_of exchanges) world.gate later.gate
+  pub handles : HandlesAll boot world.clock exchanges later.clock
   pub end_is : ends ≡ end_due messages ending
-  pub written : Appends sides.sink.held later.sink.held (printed_replies boot exchanges ++ text_at ends)
+  pub written : Appends world.sink.held later.sink.held (printed_replies boot exchanges ++ text_at ends)

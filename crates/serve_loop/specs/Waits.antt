@@ -12,15 +12,15 @@ use Rattle.row_machine.specs.declared.events.Answer.TheVariants as answer
 use Rattle.row_machine.specs.declared.events.Event.{Event}
 use Rattle.row_machine.specs.declared.events.Event.TheVariants as event
 use Rattle.gates.specs.core_rows.specs.Asked.{answered}
-use Rattle.gates.specs.Trails.{Item, rest, turn}
+use Rattle.gates.specs.History.{Item, idle, turn}
 use Rattle.gates.specs.rest_answers.specs.Asked.{showing}
 use Rattle.gates.specs.Moments.{IsRead}
 use Rattle.serve_loop.specs.Moments.{IsLate, deadline_by}
 use Rattle.serve_loop.specs.declared.wait.Waiting.{Waiting}
 
--- the most rests that are made for one wait
-abbrev pub most_rests : ℕ
-most_rests = 1000000
+-- how often one wait idles at most
+abbrev pub most_idles : ℕ
+most_idles = 1000000
 
 -- what is kept of a command, if it is a wait
 abbrev pub wait_in : List ℕ → What → Option Waiting
@@ -31,29 +31,29 @@ abbrev pub wait_of : Command → Option Waiting
 wait_of command = wait_in command.project command.what
 
 -- Where a command stands: it is not asked yet; its answer is held back, and its operation is to be looked at, with this
--- deadline and so many rests made; the operation was live, and a rest is due; the wait is over, and the operation is to
--- be asked for; or it has this reply.
-pub data Place : Type 0 where
-  unasked : Place
-  looking : ℕ → Option ℕ → ℕ → Place
-  waiting : ℕ → Option ℕ → ℕ → Place
-  due : ℕ → Place
-  replied : Reply → Place
+-- deadline, after it idled so often; the operation was live, and it is to idle; the wait is over, and the operation is
+-- to be asked for; or it has this reply.
+pub data CommandStage : Type 0 where
+  unasked : CommandStage
+  looking : ℕ → Option ℕ → ℕ → CommandStage
+  waiting : ℕ → Option ℕ → ℕ → CommandStage
+  due : ℕ → CommandStage
+  replied : Reply → CommandStage
 
 -- a command at one moment: where it stands, and what its clock tells
-pub record Stand : Type 0 where
-  pub place : Place
+pub record CommandWorld : Type 0 where
+  pub stage : CommandStage
   pub clock : Readings
 
-abbrev pub stand : Place → Readings → Stand
-stand place clock = record { place = place; clock = clock }
+abbrev pub command_world : CommandStage → Readings → CommandWorld
+command_world stage clock = record { stage = stage; clock = clock }
 
 -- where a command stands that was asked at this moment, after this answer
-abbrev pub Brings : What → ℕ → Answer → Place → Type 0
-Brings asked moment (answer.Reply a_reply) place = place ≡ replied a_reply
-Brings asked moment answer.NoMemory place = place ≡ replied reply.NoMemory
-Brings asked moment (answer.Hold op) place = place ≡ looking op (deadline_by moment asked) 0
-Brings asked moment other place = ⊥
+abbrev pub Brings : What → ℕ → Answer → CommandStage → Type 0
+Brings asked moment (answer.Reply a_reply) stage = stage ≡ replied a_reply
+Brings asked moment answer.NoMemory stage = stage ≡ replied reply.NoMemory
+Brings asked moment (answer.Hold op) stage = stage ≡ looking op (deadline_by moment asked) 0
+Brings asked moment other stage = ⊥
 
 -- whether the operation that was looked at is live
 abbrev pub Looked : Answer → Bool → Type 0
@@ -62,54 +62,55 @@ Looked (answer.Ended number) live = live ≡ false
 Looked other live = ⊥
 
 -- where a wait stands after a look at its operation
-abbrev pub Sees : ℕ → Option ℕ → ℕ → Answer → Place → Type 0
-Sees op deadline rests (answer.NotYet number) place = place ≡ waiting op deadline rests
-Sees op deadline rests (answer.Ended number) place = place ≡ due op
-Sees op deadline rests other place = ⊥
+abbrev pub Sees : ℕ → Option ℕ → ℕ → Answer → CommandStage → Type 0
+Sees op deadline idles (answer.NotYet number) stage = stage ≡ waiting op deadline idles
+Sees op deadline idles (answer.Ended number) stage = stage ≡ due op
+Sees op deadline idles other stage = ⊥
 
--- where a wait stands after so many rests: it is over where its deadline is reached, and after the most rests
-abbrev pub after_rest : ℕ → Option ℕ → ℕ → Bool → Place
-after_rest op deadline rests late = if late || rests == most_rests then due op else looking op deadline rests
+-- where a wait stands that idled so often: it is over where its deadline is reached, and after the most times
+abbrev pub after_idle : ℕ → Option ℕ → ℕ → Bool → CommandStage
+after_idle op deadline idles late = if late || idles == most_idles then due op else looking op deadline idles
 
 -- a command was asked, at the clock's next reading
-pub record Asks (command : Command) (stand : Stand) (an_event : Event) (answer : Answer) (next : Stand) : Type 0 where
+pub record Asks (command : Command) (world : CommandWorld) (an_event : Event) (answer : Answer) (next : CommandWorld)
+    : Type 0 where
   pub moment : ℕ
   pub asks : an_event ≡ event.Ask command moment
-  pub clock : IsRead stand.clock moment next.clock
-  pub brings : Brings command.what moment answer next.place
+  pub clock : IsRead world.clock moment next.clock
+  pub brings : Brings command.what moment answer next.stage
 
 -- an operation was looked at
-pub record Looks (op : ℕ) (deadline : Option ℕ) (rests : ℕ) (stand : Stand) (an_event : Event) (answer : Answer)
-    (next : Stand) : Type 0 where
+pub record Looks (op : ℕ) (deadline : Option ℕ) (idles : ℕ) (world : CommandWorld) (an_event : Event) (answer : Answer)
+    (next : CommandWorld) : Type 0 where
   pub looks : an_event ≡ event.Look op
-  pub clock : next.clock ≡ stand.clock
-  pub sees : Sees op deadline rests answer next.place
+  pub clock : next.clock ≡ world.clock
+  pub sees : Sees op deadline idles answer next.stage
 
--- one rest more was made, and then the deadline was looked at
-pub record Rests (op : ℕ) (deadline : Option ℕ) (rests : ℕ) (stand next : Stand) : Type 0 where
+-- it idled once more, and then the deadline was looked at
+pub record Idles (op : ℕ) (deadline : Option ℕ) (idles : ℕ) (world next : CommandWorld) : Type 0 where
   pub late : Bool
-  pub clock : IsLate deadline stand.clock late next.clock
-  pub place : next.place ≡ after_rest op deadline (rests + 1) late
+  pub clock : IsLate deadline world.clock late next.clock
+  pub stage : next.stage ≡ after_idle op deadline (idles + 1) late
 
 -- an operation was asked for in the project of the command, at the clock's next reading
-pub record Shows (command : Command) (op : ℕ) (stand : Stand) (an_event : Event) (answer : Answer)
-    (next : Stand) : Type 0 where
+pub record Shows (command : Command) (op : ℕ) (world : CommandWorld) (an_event : Event) (answer : Answer)
+    (next : CommandWorld) : Type 0 where
   pub moment : ℕ
   pub reply : Reply
   pub asks : an_event ≡ event.Ask (showing op command) moment
-  pub clock : IsRead stand.clock moment next.clock
+  pub clock : IsRead world.clock moment next.clock
   pub answers : answered reply ≡ answer
-  pub place : next.place ≡ replied reply
+  pub stage : next.stage ≡ replied reply
 
 -- what is done for a command where it stands
-abbrev pub DoneFor : Command → Place → Stand → Item → Stand → Type 0
-DoneFor command unasked stand (turn event outcome answer) next = Asks command stand event answer next
-DoneFor command (looking op deadline rests) stand (turn event outcome answer) next =
-    Looks op deadline rests stand event answer next
-DoneFor command (waiting op deadline rests) stand (rest events) next = Rests op deadline rests stand next
-DoneFor command (due op) stand (turn event outcome answer) next = Shows command op stand event answer next
-DoneFor command other stand item next = ⊥
+abbrev pub DoneFor : Command → CommandStage → CommandWorld → Item → CommandWorld → Type 0
+DoneFor command unasked world (turn event outcome answer) next = Asks command world event answer next
+DoneFor command (looking op deadline idles) world (turn event outcome answer) next =
+    Looks op deadline idles world event answer next
+DoneFor command (waiting op deadline idles) world (idle events) next = Idles op deadline idles world next
+DoneFor command (due op) world (turn event outcome answer) next = Shows command op world event answer next
+DoneFor command other world item next = ⊥
 
 -- one thing that is done for a command
-abbrev pub ServeBy : Command → Stand → Item → Stand → Type 0
-ServeBy command stand item next = DoneFor command stand.place stand item next
+abbrev pub ServeBy : Command → CommandWorld → Item → CommandWorld → Type 0
+ServeBy command world item next = DoneFor command world.stage world item next

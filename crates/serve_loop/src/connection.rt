@@ -1,7 +1,7 @@
 ghost use Rattle.std.specs.Prelude.{[]};
 ghost use Rattle.gates.specs.Gates.{seen};
 ghost use Rattle.gates.specs.rest_answers.specs.Links.{inlet, outlet};
-ghost use Rattle.serve_loop.specs.Serving.{line};
+ghost use Rattle.serve_loop.specs.Serving.{link_world};
 ghost use Rattle.serve_loop.specs.Connections.{Connects};
 
 use crate::link::{LinkEnd, serve_link};
@@ -34,10 +34,10 @@ pub fn serve_connection<T: Wait, G: Gate, S: Source, K: Sink, C: Clock>(
     boot: u64,
 ) -> ConnectionEnd
     ensures { Connects boot
-        (line [] (inlet S.left S.ended S.failures source.old) (outlet K.held K.failures sink.old)
-        (seen G.told G.turned G.rested gate.old) (C.readings clock.old))
+        (link_world [] (inlet S.left S.ended S.failures source.old) (outlet K.held K.failures sink.old)
+        (seen G.contents G.turned G.idled gate.old) (C.readings clock.old))
         (inlet S.left S.ended S.failures source.new) (outlet K.held K.failures sink.new)
-        (seen G.told G.turned G.rested gate.new) (C.readings clock.new) result }
+        (seen G.contents G.turned G.idled gate.new) (C.readings clock.new) result }
 {
     match serve_link(rt, alloc, gate, source, sink, clock, boot) {
         LinkEnd::Events(subscription) => {

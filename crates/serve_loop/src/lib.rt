@@ -30,5 +30,5 @@ pub use subscription_laws::{
     subscribes_by_the_filter,
 };
 pub use subscriptions::{Subscription, subscription_of};
-pub use wait::{MOST_RESTS, waits_end_after_a_million_rests};
+pub use wait::{MOST_IDLES, waits_end_after_a_million_idles};
 pub use worker::work;

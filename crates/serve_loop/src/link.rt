@@ -5,9 +5,10 @@ ghost use Rattle.http_heads.specs.declared.request.Request.{Request as RequestVa
 ghost use Rattle.size_values.specs.Causes.{Rose};
 ghost use Rattle.gates.specs.rest_answers.specs.Links.{inlet, outlet};
 ghost use Rattle.gates.specs.Gates.{Between, seen};
-ghost use Rattle.gates.specs.Trails.{Item};
-ghost use Rattle.serve_loop.specs.Serving.{Meets, Replies, Serving, ServingFrom, Turns, end_after, line, turn_after};
-ghost use Rattle.serve_loop.specs.Texts.{IsFault, ServesText, sides};
+ghost use Rattle.gates.specs.History.{Item};
+ghost use Rattle.serve_loop.specs.Serving.{Meets, Replies, Serving, ServingFrom, Turns, end_after, link_world};
+ghost use Rattle.serve_loop.specs.Serving.{turn_after};
+ghost use Rattle.serve_loop.specs.Texts.{IsFault, ServesText, reply_world};
 ghost use Rattle.serve_loop.specs.declared.link.LinkEnd.TheVariants as end;
 
 use crate::reply::reply_to;
@@ -84,8 +85,8 @@ fn answer_request<G: Gate, K: Sink, C: Clock>(
     boot: u64,
 ) -> Turn
     ensures { Replies boot request.now result (outlet K.held K.failures sink.old)
-        (outlet K.held K.failures sink.new) (seen G.told G.turned G.rested gate.old)
-        (seen G.told G.turned G.rested gate.new) (C.readings clock.old) (C.readings clock.new) }
+        (outlet K.held K.failures sink.new) (seen G.contents G.turned G.idled gate.old)
+        (seen G.contents G.turned G.idled gate.new) (C.readings clock.old) (C.readings clock.new) }
 {
     let reply = reply_to(alloc, router, gate, clock, request, boot);
     let answered = answer_for(alloc, &reply, boot, request.last);
@@ -106,8 +107,8 @@ fn serve_request<G: Gate, K: Sink, C: Clock>(
     boot: u64,
 ) -> Turn
     ensures { Meets boot request.now result (outlet K.held K.failures sink.old)
-        (outlet K.held K.failures sink.new) (seen G.told G.turned G.rested gate.old)
-        (seen G.told G.turned G.rested gate.new) (C.readings clock.old) (C.readings clock.new) }
+        (outlet K.held K.failures sink.new) (seen G.contents G.turned G.idled gate.old)
+        (seen G.contents G.turned G.idled gate.new) (C.readings clock.old) (C.readings clock.new) }
 {
     match subscription_of(alloc, request) {
         Ok(Some(subscription)) => Turn::Stop(LinkEnd::Events(subscription)),
@@ -128,11 +129,11 @@ fn serve_next<G: Gate, S: Source, K: Sink, C: Clock>(
     boot: u64,
 ) -> Turn
     ensures { Turns boot result
-        (line buffer.old (inlet S.left S.ended S.failures source.old)
-        (outlet K.held K.failures sink.old) (seen G.told G.turned G.rested gate.old)
+        (link_world buffer.old (inlet S.left S.ended S.failures source.old)
+        (outlet K.held K.failures sink.old) (seen G.contents G.turned G.idled gate.old)
         (C.readings clock.old))
-        (line buffer.new (inlet S.left S.ended S.failures source.new)
-        (outlet K.held K.failures sink.new) (seen G.told G.turned G.rested gate.new)
+        (link_world buffer.new (inlet S.left S.ended S.failures source.new)
+        (outlet K.held K.failures sink.new) (seen G.contents G.turned G.idled gate.new)
         (C.readings clock.new)) }
 {
     match read_request(alloc, buffer, source) {
@@ -162,11 +163,11 @@ fn serve<T: Wait, G: Gate, S: Source, K: Sink, C: Clock>(
     boot: u64,
 ) -> LinkEnd
     ensures { Serving boot
-        (line buffer.old (inlet S.left S.ended S.failures source.old)
-        (outlet K.held K.failures sink.old) (seen G.told G.turned G.rested gate.old)
+        (link_world buffer.old (inlet S.left S.ended S.failures source.old)
+        (outlet K.held K.failures sink.old) (seen G.contents G.turned G.idled gate.old)
         (C.readings clock.old))
-        (line buffer.new (inlet S.left S.ended S.failures source.new)
-        (outlet K.held K.failures sink.new) (seen G.told G.turned G.rested gate.new)
+        (link_world buffer.new (inlet S.left S.ended S.failures source.new)
+        (outlet K.held K.failures sink.new) (seen G.contents G.turned G.idled gate.new)
         (C.readings clock.new))
         result }
 {
@@ -191,10 +192,10 @@ fn serve_from_empty<T: Wait, G: Gate, S: Source, K: Sink, C: Clock>(
     boot: u64,
 ) -> LinkEnd
     ensures { ServingFrom boot
-        (line [] (inlet S.left S.ended S.failures source.old) (outlet K.held K.failures sink.old)
-        (seen G.told G.turned G.rested gate.old) (C.readings clock.old))
+        (link_world [] (inlet S.left S.ended S.failures source.old) (outlet K.held K.failures sink.old)
+        (seen G.contents G.turned G.idled gate.old) (C.readings clock.old))
         (inlet S.left S.ended S.failures source.new) (outlet K.held K.failures sink.new)
-        (seen G.told G.turned G.rested gate.new) (C.readings clock.new) result }
+        (seen G.contents G.turned G.idled gate.new) (C.readings clock.new) result }
 {
     let Ok(router) = Router::new(alloc) else {
         return LinkEnd::NoMemory;
@@ -221,10 +222,9 @@ fn serve_from_empty<T: Wait, G: Gate, S: Source, K: Sink, C: Clock>(
 
 /// Answers the requests of a connection one after the other, each at the gate, and writes their
 /// replies (HTTP/1.1, RFC 9112, section 9), until one subscribes to events. There is no limit to
-/// their number. A request asks for
-/// its command once, and a wait is looked at, and followed by one rest after each look that shows
-/// its operation live: until it has ended, until the clock is at the deadline, or a million times.
-/// The boot word is that of the ids of operations.
+/// their number. A request asks for its command once, and a wait is looked at, and the gate
+/// idles once after each look that shows its operation live: until it has ended, until the clock is
+/// at the deadline, or a million times. The boot word is that of the ids of operations.
 pub fn serve_link<T: Wait, G: Gate, S: Source, K: Sink, C: Clock>(
     rt: &T,
     alloc: Global,
@@ -235,22 +235,22 @@ pub fn serve_link<T: Wait, G: Gate, S: Source, K: Sink, C: Clock>(
     boot: u64,
 ) -> LinkEnd
     ensures serves { ServingFrom boot
-        (line [] (inlet S.left S.ended S.failures source.old) (outlet K.held K.failures sink.old)
-        (seen G.told G.turned G.rested gate.old) (C.readings clock.old))
+        (link_world [] (inlet S.left S.ended S.failures source.old) (outlet K.held K.failures sink.old)
+        (seen G.contents G.turned G.idled gate.old) (C.readings clock.old))
         (inlet S.left S.ended S.failures source.new) (outlet K.held K.failures sink.new)
-        (seen G.told G.turned G.rested gate.new) (C.readings clock.new) result }
+        (seen G.contents G.turned G.idled gate.new) (C.readings clock.new) result }
 
-    // What was done at the gate is one trail.
-    ensures trail { (trail : List Item) × Between trail (seen G.told G.turned G.rested gate.old)
-        (seen G.told G.turned G.rested gate.new) }
+    // What was done at the gate is one history.
+    ensures history { (history : List Item) × Between history (seen G.contents G.turned G.idled gate.old)
+        (seen G.contents G.turned G.idled gate.new) }
 
     // Over a source that tells its bytes: a fault, or what these bytes ask.
     ensures text { IfSome (S.left source.old) (λ text. (messages : List RequestValue) (ending : Ending)
         → Splits text messages ending → IsFault result
         ⊎ ServesText boot messages ending result
-        (sides (outlet K.held K.failures sink.old) (seen G.told G.turned G.rested gate.old)
+        (reply_world (outlet K.held K.failures sink.old) (seen G.contents G.turned G.idled gate.old)
         (C.readings clock.old))
-        (sides (outlet K.held K.failures sink.new) (seen G.told G.turned G.rested gate.new)
+        (reply_world (outlet K.held K.failures sink.new) (seen G.contents G.turned G.idled gate.new)
         (C.readings clock.new))) }
 
     ensures cut { result ≡ end.Cut → S.ended source.new ≡ true }

@@ -1,17 +1,17 @@
 //! What goes on in an event session.
 ghost use Rattle.std.specs.Prelude.{◌≡◌, ◌⊎◌, ◌<◌, ℕ, [], IfOk, OnErr};
 ghost use Rattle.gates.specs.Answers.{IsForListener};
-ghost use Rattle.serve_loop.specs.Waits.{most_rests};
+ghost use Rattle.serve_loop.specs.Waits.{most_idles};
 ghost use Rattle.gates.specs.Gates.{Seen, seen};
 ghost use Rattle.records.specs.declared.notices.Filter.{Filter as FilterValue};
 ghost use Rattle.gates.specs.rest_answers.specs.Links.{Outlet, outlet};
 ghost use Rattle.row_machine.specs.declared.events.Answer.TheVariants as answer;
-ghost use Rattle.serve_loop.specs.Listening.{Asks, GoesOn, Leaves, after_sending, ear, notices_in};
-ghost use Rattle.serve_loop.specs.Sessions.{after_fetched, after_notices, asking, lagged, resting};
+ghost use Rattle.serve_loop.specs.Listening.{Asks, GoesOn, Leaves, after_sending, event_world, notices_in};
+ghost use Rattle.serve_loop.specs.Sessions.{after_fetched, after_notices, asking, lagged, idling};
 
 use crate::frames::{send_close, send_notices};
 use crate::session::SessionEnd;
-use crate::wait::MOST_RESTS;
+use crate::wait::MOST_IDLES;
 use gates::{Gate, Written};
 use http_front::Sink;
 use records::{Filter, Notice};
@@ -23,8 +23,8 @@ use std::sync::Wait;
 /// What a session has to do next.
 #[derive(Clone, Copy)]
 pub enum ListenState {
-    /// To ask for the events from this number on, after so many rests without any.
-    Asking { cursor: u64, rests: u32 },
+    /// To ask for the events from this number on, after it idled so often without any.
+    Asking { cursor: u64, idles: u32 },
     /// Nothing any more.
     Over(SessionEnd),
 }
@@ -62,31 +62,31 @@ pub(crate) fn ask<G: Gate>(
     filter: &Filter,
 ) -> Result<Fetched, NoMemory>
     ensures ok { IfOk result (λ f. Asks filter.now cursor (answer.Fetched f)
-        (seen G.told G.turned G.rested gate.old) (seen G.told G.turned G.rested gate.new)) }
+        (seen G.contents G.turned G.idled gate.old) (seen G.contents G.turned G.idled gate.new)) }
     ensures err { OnErr result (
-        (seen G.told G.turned G.rested gate.new ≡ seen G.told G.turned G.rested gate.old)
-        ⊎ Asks filter.now cursor answer.NoMemory (seen G.told G.turned G.rested gate.old)
-        (seen G.told G.turned G.rested gate.new)) }
+        (seen G.contents G.turned G.idled gate.new ≡ seen G.contents G.turned G.idled gate.old)
+        ⊎ Asks filter.now cursor answer.NoMemory (seen G.contents G.turned G.idled gate.old)
+        (seen G.contents G.turned G.idled gate.new)) }
 {
     let filter = copied(alloc, filter)?;
     let given = gate.turn(Event::Fetch(cursor, filter));
     fetched_in(given)
 }
 
-/// One rest after an answer without events.
-fn rest<G: Gate>(gate: &mut G, next: u64, rests: u32) -> ListenState
-    requires few { rests < most_rests }
+/// Idles once after an answer without events.
+fn idle<G: Gate>(gate: &mut G, next: u64, idles: u32) -> ListenState
+    requires few { idles < most_idles }
     ensures { (boot : ℕ) (filter : FilterValue) (sink : Outlet) → GoesOn boot filter []
-        (ear (resting next rests) (seen G.told G.turned G.rested gate.old) sink) result
-        (seen G.told G.turned G.rested gate.new) sink }
+        (event_world (idling next idles) (seen G.contents G.turned G.idled gate.old) sink) result
+        (seen G.contents G.turned G.idled gate.new) sink }
 {
-    gate.rest();
-    if rests + 1 == MOST_RESTS {
-        ListenState::Over(SessionEnd::Rested)
+    gate.idle();
+    if idles + 1 == MOST_IDLES {
+        ListenState::Over(SessionEnd::Idled)
     } else {
         ListenState::Asking {
             cursor: next,
-            rests: rests + 1,
+            idles: idles + 1,
         }
     }
 }
@@ -98,32 +98,32 @@ fn after_sending(written: Written, next: u64) -> ListenState
     match written {
         Written::Whole => ListenState::Asking {
             cursor: next,
-            rests: 0,
+            idles: 0,
         },
         Written::WriteFault => ListenState::Over(SessionEnd::WriteFault),
         Written::NoMemory => ListenState::Over(SessionEnd::NoMemory),
     }
 }
 
-/// Sends the events of an answer, or rests where it has none.
+/// Sends the events of an answer, or idles where it has none.
 fn tell<G: Gate, K: Sink>(
     alloc: Global,
     gate: &mut G,
     sink: &mut K,
     notices: Seq<Notice>,
     next: u64,
-    rests: u32,
+    idles: u32,
     boot: u64,
 ) -> ListenState
-    requires few { rests < most_rests }
+    requires few { idles < most_idles }
     ensures { (filter : FilterValue) → GoesOn boot filter notices
-        (ear (after_notices notices next rests) (seen G.told G.turned G.rested gate.old)
-        (outlet K.held K.failures sink.old)) result (seen G.told G.turned G.rested gate.new)
+        (event_world (after_notices notices next idles) (seen G.contents G.turned G.idled gate.old)
+        (outlet K.held K.failures sink.old)) result (seen G.contents G.turned G.idled gate.new)
         (outlet K.held K.failures sink.new) }
 {
     if notices.is_empty() {
         drop(notices);
-        return rest(gate, next, rests);
+        return idle(gate, next, idles);
     }
     let written = send_notices(alloc, sink, notices.view(), boot);
     drop(notices);
@@ -133,7 +133,7 @@ fn tell<G: Gate, K: Sink>(
 /// Closes a session that lagged.
 fn close<K: Sink>(alloc: Global, sink: &mut K, cursor: u64, oldest: u64) -> SessionEnd
     ensures { (boot : ℕ) (filter : FilterValue) (gate : Seen) → Leaves boot filter []
-        (ear (lagged cursor oldest) gate (outlet K.held K.failures sink.old)) gate
+        (event_world (lagged cursor oldest) gate (outlet K.held K.failures sink.old)) gate
         (outlet K.held K.failures sink.new) result }
 {
     match send_close(alloc, sink) {
@@ -144,44 +144,44 @@ fn close<K: Sink>(alloc: Global, sink: &mut K, cursor: u64, oldest: u64) -> Sess
 }
 
 /// What follows an answer to a session.
-pub(crate) fn heard<G: Gate, K: Sink>(
+pub(crate) fn on_events<G: Gate, K: Sink>(
     alloc: Global,
     gate: &mut G,
     sink: &mut K,
     fetched: Fetched,
-    rests: u32,
+    idles: u32,
     boot: u64,
 ) -> ListenState
-    requires few { rests < most_rests }
+    requires few { idles < most_idles }
     ensures { (filter : FilterValue) → GoesOn boot filter (notices_in fetched)
-        (ear (after_fetched fetched rests) (seen G.told G.turned G.rested gate.old)
-        (outlet K.held K.failures sink.old)) result (seen G.told G.turned G.rested gate.new)
+        (event_world (after_fetched fetched idles) (seen G.contents G.turned G.idled gate.old)
+        (outlet K.held K.failures sink.old)) result (seen G.contents G.turned G.idled gate.new)
         (outlet K.held K.failures sink.new) }
 {
     match fetched {
-        Fetched::Notices(notices, next) => tell(alloc, gate, sink, notices, next, rests, boot),
+        Fetched::Notices(notices, next) => tell(alloc, gate, sink, notices, next, idles, boot),
         Fetched::Lagged { cursor, oldest } => ListenState::Over(close(alloc, sink, cursor, oldest)),
     }
 }
 
-/// Asks once for events, and sends them or rests.
+/// Asks once for events, and sends them or idles.
 fn go_on<G: Gate, K: Sink>(
     alloc: Global,
     gate: &mut G,
     sink: &mut K,
     cursor: u64,
-    rests: u32,
+    idles: u32,
     filter: &Filter,
     boot: u64,
 ) -> ListenState
-    requires few { rests < most_rests }
+    requires few { idles < most_idles }
     ensures { GoesOn boot filter.now []
-        (ear (asking cursor rests) (seen G.told G.turned G.rested gate.old)
-        (outlet K.held K.failures sink.old)) result (seen G.told G.turned G.rested gate.new)
+        (event_world (asking cursor idles) (seen G.contents G.turned G.idled gate.old)
+        (outlet K.held K.failures sink.old)) result (seen G.contents G.turned G.idled gate.new)
         (outlet K.held K.failures sink.new) }
 {
     match ask(alloc, gate, cursor, filter) {
-        Ok(fetched) => heard(alloc, gate, sink, fetched, rests, boot),
+        Ok(fetched) => on_events(alloc, gate, sink, fetched, idles, boot),
         Err(NoMemory) => ListenState::Over(SessionEnd::NoMemory),
     }
 }
@@ -193,23 +193,23 @@ pub(crate) fn listen<T: Wait, G: Gate, K: Sink>(
     gate: &mut G,
     sink: &mut K,
     cursor: u64,
-    rests: u32,
+    idles: u32,
     filter: &Filter,
     boot: u64,
 ) -> SessionEnd
-    requires few { rests < most_rests }
+    requires few { idles < most_idles }
     ensures { Leaves boot filter.now []
-        (ear (asking cursor rests) (seen G.told G.turned G.rested gate.old)
-        (outlet K.held K.failures sink.old)) (seen G.told G.turned G.rested gate.new)
+        (event_world (asking cursor idles) (seen G.contents G.turned G.idled gate.old)
+        (outlet K.held K.failures sink.old)) (seen G.contents G.turned G.idled gate.new)
         (outlet K.held K.failures sink.new) result }
 {
     let mut next = cursor;
-    let mut rested = rests;
+    let mut idled = idles;
     'asks: for _ in rt.forever() {
-        match go_on(alloc, gate, sink, next, rested, filter, boot) {
-            ListenState::Asking { cursor, rests } => {
+        match go_on(alloc, gate, sink, next, idled, filter, boot) {
+            ListenState::Asking { cursor, idles } => {
                 next = cursor;
-                rested = rests;
+                idled = idles;
             }
             ListenState::Over(ends) => return ends,
         }

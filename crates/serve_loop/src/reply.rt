@@ -21,8 +21,8 @@ fn carry_out<G: Gate, C: Clock>(
     command: Command,
 ) -> Reply
     requires formed { is_formed command ≡ true }
-    ensures { Reaches (Ok command) (seen G.told G.turned G.rested gate.old)
-        (seen G.told G.turned G.rested gate.new) (C.readings clock.old) (C.readings clock.new)
+    ensures { Reaches (Ok command) (seen G.contents G.turned G.idled gate.old)
+        (seen G.contents G.turned G.idled gate.new) (C.readings clock.old) (C.readings clock.new)
         result }
 {
     match wait_of(alloc, &command) {
@@ -43,8 +43,8 @@ pub fn reply_to<G: Gate, C: Clock>(
     request: &Request,
     boot: u64,
 ) -> Reply
-    ensures { Reaches (command_of request.now boot) (seen G.told G.turned G.rested gate.old)
-        (seen G.told G.turned G.rested gate.new) (C.readings clock.old) (C.readings clock.new)
+    ensures { Reaches (command_of request.now boot) (seen G.contents G.turned G.idled gate.old)
+        (seen G.contents G.turned G.idled gate.new) (C.readings clock.old) (C.readings clock.new)
         result }
 {
     match router.route(alloc, request, boot) {

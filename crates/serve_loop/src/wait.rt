@@ -8,22 +8,22 @@ ghost use Rattle.records.specs.declared.commands.Command.{Command as CommandValu
 ghost use Rattle.gates.specs.Gates.{Walk, seen};
 ghost use Rattle.serve_loop.specs.Moments.{IsLate, deadline_by, deadline_of};
 ghost use Rattle.gates.specs.Answers.{IsForLooker};
-ghost use Rattle.serve_loop.specs.Waits.{Looked, ServeBy, after_rest, due};
-ghost use Rattle.serve_loop.specs.Waits.{looking, most_rests, replied, stand, unasked, wait_of, waiting};
+ghost use Rattle.serve_loop.specs.Waits.{Looked, ServeBy, after_idle, due};
+ghost use Rattle.serve_loop.specs.Waits.{looking, most_idles, replied, command_world, unasked, wait_of, waiting};
 
-use gates::{Asked, Gate, asked_of, reply_of};
+use gates::{Gate, ReplyOrWait, reply_of, reply_or_wait_of};
 use http_front::Clock;
 use records::{Command, Reply, What};
 use row_machine::{Answer, Event};
 use size_values::{NoMemory, Text};
 use std::alloc::Global;
 
-/// The most rests that are made for one wait.
-pub const MOST_RESTS: u32 = 1_000_000;
+/// How often one wait idles at most.
+pub const MOST_IDLES: u32 = 1_000_000;
 
 /// The constant is the number that definitions speak of.
-pub fn waits_end_after_a_million_rests()
-    ensures { MOST_RESTS ≡ most_rests }
+pub fn waits_end_after_a_million_idles()
+    ensures { MOST_IDLES ≡ most_idles }
 {}
 
 /// What is kept of a wait while its answer is held back: its project, and its seconds, where a
@@ -85,40 +85,40 @@ fn is_live(answer: Answer) -> bool
 
 /// Looks at an operation, and says whether it is live.
 fn look<G: Gate>(gate: &mut G, number: u64) -> bool
-    ensures { (c : CommandValue) (deadline : Option ℕ) (rests : ℕ) (clock : Readings)
+    ensures { (c : CommandValue) (deadline : Option ℕ) (idles : ℕ) (clock : Readings)
         → Walk (ServeBy c)
-        (seen G.told G.turned G.rested gate.old) (seen G.told G.turned G.rested gate.new)
-        (stand (looking number deadline rests) clock)
-        (stand (if result then waiting number deadline rests else due number) clock) }
+        (seen G.contents G.turned G.idled gate.old) (seen G.contents G.turned G.idled gate.new)
+        (command_world (looking number deadline idles) clock)
+        (command_world (if result then waiting number deadline idles else due number) clock) }
 {
     let answer = gate.turn(Event::Look(number));
     is_live(answer)
 }
 
-/// One rest, and then a look at the deadline: whether it is reached.
-fn rest<G: Gate, C: Clock>(gate: &mut G, clock: &mut C, deadline: Option<u64>) -> bool
-    ensures { (c : CommandValue) (op : ℕ) (rests : ℕ) → Walk (ServeBy c)
-        (seen G.told G.turned G.rested gate.old) (seen G.told G.turned G.rested gate.new)
-        (stand (waiting op deadline rests) (C.readings clock.old))
-        (stand (after_rest op deadline (rests + 1) result) (C.readings clock.new)) }
+/// Idles once, and then looks at the deadline: whether it is reached.
+fn idle<G: Gate, C: Clock>(gate: &mut G, clock: &mut C, deadline: Option<u64>) -> bool
+    ensures { (c : CommandValue) (op : ℕ) (idles : ℕ) → Walk (ServeBy c)
+        (seen G.contents G.turned G.idled gate.old) (seen G.contents G.turned G.idled gate.new)
+        (command_world (waiting op deadline idles) (C.readings clock.old))
+        (command_world (after_idle op deadline (idles + 1) result) (C.readings clock.new)) }
 {
-    gate.rest();
+    gate.idle();
     is_late(clock, deadline)
 }
 
-/// Looks at an operation until it has ended, and rests once after each look that shows it live:
+/// Looks at an operation until it has ended, and idles once after each look that shows it live:
 /// until the deadline, and at most so often.
 fn wait_for<G: Gate, C: Clock>(gate: &mut G, clock: &mut C, number: u64, deadline: Option<u64>)
     ensures { (c : CommandValue) → Walk (ServeBy c)
-        (seen G.told G.turned G.rested gate.old) (seen G.told G.turned G.rested gate.new)
-        (stand (looking number deadline 0) (C.readings clock.old))
-        (stand (due number) (C.readings clock.new)) }
+        (seen G.contents G.turned G.idled gate.old) (seen G.contents G.turned G.idled gate.new)
+        (command_world (looking number deadline 0) (C.readings clock.old))
+        (command_world (due number) (C.readings clock.new)) }
 {
-    for rests in 0..MOST_RESTS {
+    for idles in 0..MOST_IDLES {
         if !look(gate, number) {
             return;
         }
-        if rest(gate, clock, deadline) {
+        if idle(gate, clock, deadline) {
             return;
         }
     }
@@ -127,9 +127,9 @@ fn wait_for<G: Gate, C: Clock>(gate: &mut G, clock: &mut C, number: u64, deadlin
 /// Asks for an operation in a project.
 fn show<G: Gate, C: Clock>(gate: &mut G, clock: &mut C, project: Text, number: u64) -> Reply
     ensures { (c : CommandValue) → c.project ≡ project → Walk (ServeBy c)
-        (seen G.told G.turned G.rested gate.old) (seen G.told G.turned G.rested gate.new)
-        (stand (due number) (C.readings clock.old))
-        (stand (replied result) (C.readings clock.new)) }
+        (seen G.contents G.turned G.idled gate.old) (seen G.contents G.turned G.idled gate.new)
+        (command_world (due number) (C.readings clock.old))
+        (command_world (replied result) (C.readings clock.new)) }
 {
     let command = Command {
         project,
@@ -150,9 +150,9 @@ fn wait_and_show<G: Gate, C: Clock>(
 ) -> Reply
     requires early { moment < moment_limit }
     ensures { (c : CommandValue) → Some wait ≡ wait_of c → Walk (ServeBy c)
-        (seen G.told G.turned G.rested gate.old) (seen G.told G.turned G.rested gate.new)
-        (stand (looking number (deadline_by moment c.what) 0) (C.readings clock.old))
-        (stand (replied result) (C.readings clock.new)) }
+        (seen G.contents G.turned G.idled gate.old) (seen G.contents G.turned G.idled gate.new)
+        (command_world (looking number (deadline_by moment c.what) 0) (C.readings clock.old))
+        (command_world (replied result) (C.readings clock.new)) }
 {
     let Waiting { project, timeout } = wait;
     wait_for(gate, clock, number, deadline_of(moment, timeout));
@@ -170,9 +170,9 @@ fn hold<G: Gate, C: Clock>(
     requires early { moment < moment_limit }
     requires kept { kept ≢ None }
     ensures { (c : CommandValue) → kept ≡ wait_of c → Walk (ServeBy c)
-        (seen G.told G.turned G.rested gate.old) (seen G.told G.turned G.rested gate.new)
-        (stand (looking number (deadline_by moment c.what) 0) (C.readings clock.old))
-        (stand (replied result) (C.readings clock.new)) }
+        (seen G.contents G.turned G.idled gate.old) (seen G.contents G.turned G.idled gate.new)
+        (command_world (looking number (deadline_by moment c.what) 0) (C.readings clock.old))
+        (command_world (replied result) (C.readings clock.new)) }
 {
     match kept {
         Some(wait) => wait_and_show(gate, clock, wait, moment, number),
@@ -181,8 +181,8 @@ fn hold<G: Gate, C: Clock>(
 }
 
 /// Asks for a command, of which this was kept. The answer of a wait is held back until its
-/// operation has ended, its time is over, or the most rests were made, and is then what is told of
-/// that operation.
+/// operation has ended, its time is over, or it idled as often as it may, and is then what is told
+/// of that operation.
 pub(crate) fn ask<G: Gate, C: Clock>(
     gate: &mut G,
     clock: &mut C,
@@ -192,16 +192,16 @@ pub(crate) fn ask<G: Gate, C: Clock>(
     requires formed { is_formed command ≡ true }
     requires kept { kept ≡ wait_of command }
     ensures { Walk (ServeBy command)
-        (seen G.told G.turned G.rested gate.old) (seen G.told G.turned G.rested gate.new)
-        (stand unasked (C.readings clock.old)) (stand (replied result) (C.readings clock.new)) }
+        (seen G.contents G.turned G.idled gate.old) (seen G.contents G.turned G.idled gate.new)
+        (command_world unasked (C.readings clock.old)) (command_world (replied result) (C.readings clock.new)) }
 {
     let moment = clock.now();
     let answer = gate.turn(Event::Ask(command, moment));
-    match asked_of(answer) {
-        Asked::Reply(reply) => {
+    match reply_or_wait_of(answer) {
+        ReplyOrWait::Reply(reply) => {
             drop(kept);
             reply
         }
-        Asked::Hold(number) => hold(gate, clock, kept, moment, number),
+        ReplyOrWait::Hold(number) => hold(gate, clock, kept, moment, number),
     }
 }

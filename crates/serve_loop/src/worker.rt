@@ -4,7 +4,7 @@ ghost use Rattle.http_front.specs.Clocks.{Readings};
 ghost use Rattle.gates.specs.serial_steps.specs.Steps.{Hosted, hosted};
 ghost use Rattle.gates.specs.Gates.{Walk, seen};
 ghost use Rattle.gates.specs.Answers.{IsForReporter, IsForTaker};
-ghost use Rattle.serve_loop.specs.Work.{Gets, GoesOn, WorkBy, standing};
+ghost use Rattle.serve_loop.specs.Work.{Gets, GoesOn, WorkBy, worker_world};
 ghost use Rattle.serve_loop.specs.declared.worker.WorkerState.TheVariants as post_of;
 
 use gates::Gate;
@@ -17,11 +17,11 @@ use std::sync::Wait;
 #[derive(Drop)]
 pub enum WorkerState {
     /// To ask for a call.
-    Idle,
+    Asking,
     /// To make this call of the operation of this number.
     Busy(u64, HostCall),
-    /// To rest, since no call waits.
-    Resting,
+    /// To idle, since no call waits.
+    Idling,
     /// Nothing any more, since the server was closed.
     Over,
 }
@@ -33,7 +33,7 @@ fn post_after_take(answer: Answer) -> WorkerState
 {
     match answer {
         Answer::Job(number, call) => WorkerState::Busy(number, call),
-        Answer::NoJob => WorkerState::Resting,
+        Answer::NoJob => WorkerState::Idling,
         Answer::Closed => WorkerState::Over,
         _ => unreachable!(),
     }
@@ -46,7 +46,7 @@ fn post_after_report(answer: Answer) -> WorkerState
 {
     match answer {
         Answer::Job(number, call) => WorkerState::Busy(number, call),
-        Answer::Ended(_) | Answer::Stray(_) => WorkerState::Idle,
+        Answer::Ended(_) | Answer::Stray(_) => WorkerState::Asking,
         _ => unreachable!(),
     }
 }
@@ -54,9 +54,9 @@ fn post_after_report(answer: Answer) -> WorkerState
 /// Asks for a call.
 fn take_call<G: Gate, C: Clock>(gate: &mut G, clock: &mut C) -> WorkerState
     ensures { (host : Hosted) → Walk WorkBy
-        (seen G.told G.turned G.rested gate.old) (seen G.told G.turned G.rested gate.new)
-        (standing post_of.Idle host (C.readings clock.old))
-        (standing result host (C.readings clock.new)) }
+        (seen G.contents G.turned G.idled gate.old) (seen G.contents G.turned G.idled gate.new)
+        (worker_world post_of.Asking host (C.readings clock.old))
+        (worker_world result host (C.readings clock.new)) }
 {
     let moment = clock.now();
     let answer = gate.turn(Event::Take(moment));
@@ -72,10 +72,10 @@ fn make_call<G: Gate, H: Host, C: Clock>(
     call: HostCall,
 ) -> WorkerState
     ensures { Walk WorkBy
-        (seen G.told G.turned G.rested gate.old) (seen G.told G.turned G.rested gate.new)
-        (standing (post_of.Busy number call) (hosted H.told H.failures host.old)
+        (seen G.contents G.turned G.idled gate.old) (seen G.contents G.turned G.idled gate.new)
+        (worker_world (post_of.Busy number call) (hosted H.contents H.failures host.old)
         (C.readings clock.old))
-        (standing result (hosted H.told H.failures host.new) (C.readings clock.new)) }
+        (worker_world result (hosted H.contents H.failures host.new) (C.readings clock.new)) }
 {
     let report = perform(host, &call);
     drop(call);
@@ -84,13 +84,13 @@ fn make_call<G: Gate, H: Host, C: Clock>(
     post_after_report(answer)
 }
 
-/// Rests once.
-fn rest<G: Gate>(gate: &mut G)
+/// Idles once.
+fn idle<G: Gate>(gate: &mut G)
     ensures { (host : Hosted) (clock : Readings) → Walk WorkBy
-        (seen G.told G.turned G.rested gate.old) (seen G.told G.turned G.rested gate.new)
-        (standing post_of.Resting host clock) (standing post_of.Idle host clock) }
+        (seen G.contents G.turned G.idled gate.old) (seen G.contents G.turned G.idled gate.new)
+        (worker_world post_of.Idling host clock) (worker_world post_of.Asking host clock) }
 {
-    gate.rest();
+    gate.idle();
 }
 
 /// What a worker does at its post. It gives what it has to do then.
@@ -101,33 +101,33 @@ fn go_on<G: Gate, H: Host, C: Clock>(
     post: WorkerState,
 ) -> WorkerState
     ensures { Walk WorkBy
-        (seen G.told G.turned G.rested gate.old) (seen G.told G.turned G.rested gate.new)
-        (standing post (hosted H.told H.failures host.old) (C.readings clock.old))
-        (standing result (hosted H.told H.failures host.new) (C.readings clock.new)) }
+        (seen G.contents G.turned G.idled gate.old) (seen G.contents G.turned G.idled gate.new)
+        (worker_world post (hosted H.contents H.failures host.old) (C.readings clock.old))
+        (worker_world result (hosted H.contents H.failures host.new) (C.readings clock.new)) }
 {
     match post {
-        WorkerState::Idle => take_call(gate, clock),
+        WorkerState::Asking => take_call(gate, clock),
         WorkerState::Busy(number, call) => make_call(gate, host, clock, number, call),
-        WorkerState::Resting => {
-            rest(gate);
-            WorkerState::Idle
+        WorkerState::Idling => {
+            idle(gate);
+            WorkerState::Asking
         }
         WorkerState::Over => WorkerState::Over,
     }
 }
 
 /// Works until the server is closed and nothing waits: it asks for calls, makes them on the host,
-/// and reports what became of each. It rests after each answer that no call waits. The clock is
+/// and reports what became of each. It idles after each answer that no call waits. The clock is
 /// read once for each call that is asked for and for each report.
 pub fn work<T: Wait, G: Gate, H: Host, C: Clock>(rt: &T, gate: &mut G, host: &mut H, clock: &mut C)
     // It begins with no call in hand, and returns only after a call that it asked for was answered
     // by the close.
     ensures { Walk WorkBy
-        (seen G.told G.turned G.rested gate.old) (seen G.told G.turned G.rested gate.new)
-        (standing post_of.Idle (hosted H.told H.failures host.old) (C.readings clock.old))
-        (standing post_of.Over (hosted H.told H.failures host.new) (C.readings clock.new)) }
+        (seen G.contents G.turned G.idled gate.old) (seen G.contents G.turned G.idled gate.new)
+        (worker_world post_of.Asking (hosted H.contents H.failures host.old) (C.readings clock.old))
+        (worker_world post_of.Over (hosted H.contents H.failures host.new) (C.readings clock.new)) }
 {
-    let mut post = WorkerState::Idle;
+    let mut post = WorkerState::Asking;
     for _ in rt.forever() {
         match post {
             WorkerState::Over => return,

@@ -50,11 +50,11 @@ no_start start.NoMemory n is (inr more) = let none : ⊥ = omega (arith, is, mor
 given_back : (back : Option Store) (left : Store) (P : Store → Type 0) → back ≡ Some left → P left → GivesBack back P
 given_back back left P is h = subst (λ b. GivesBack b P) (sym is) h
 
--- what is true of entries where they are told
-if_told : (told : Option (List Entry)) (P : List Entry → Type 0) → ((entries : List Entry) → told ≡ Some entries → P entries)
+-- what is true of contents where they are shown
+if_contents : (told : Option (List Entry)) (P : List Entry → Type 0) → ((entries : List Entry) → told ≡ Some entries → P entries)
     → IfSome told P
-if_told None P h = tt
-if_told (Some entries) P h = h entries refl
+if_contents None P h = tt
+if_contents (Some entries) P h = h entries refl
 
 module _ (words : List (List ℕ)) (keeper : Store) (back : Option Store) (before after : Outside) (status : ℕ) where
   -- status 0: all were served
@@ -148,13 +148,13 @@ module _ (words : List (List ℕ)) (keeper : Store) (back : Option Store) (befor
 
   -- entries that open to no rows
   refused_entries : Serves words keeper back before after status → (entries : List Entry)
-      → keeper.told ≡ Some entries → is_refused (opening_of entries) ≡ true → is_some (serve_words_of words) ≡ true
+      → keeper.contents ≡ Some entries → is_refused (opening_of entries) ≡ true → is_some (serve_words_of words) ≡ true
       → (status ≡ 6) ⊎ ((status ≡ 7) ⊎ (status ≡ 9))
   refused_entries (inl begun) entries told refused read =
-      absurd (false≢true (sym (ap is_refused (opens_so entries begun.opens.entries told begun.opens.told
+      absurd (false≢true (sym (ap is_refused (opens_so entries begun.opens.entries told begun.opens.contents
       ∙ begun.opens.opens)) ∙ refused)) where
-        opens_so : (es found : List Entry) → keeper.told ≡ Some es
-            → IfSome keeper.told (λ es. es ≡ found) → opening_of es ≡ opening_of found
+        opens_so : (es found : List Entry) → keeper.contents ≡ Some es
+            → IfSome keeper.contents (λ es. es ≡ found) → opening_of es ≡ opening_of found
         opens_so es found told are = ap opening_of (subst (λ o. IfSome o (λ es. es ≡ found)) told are)
   refused_entries (inr not) entries told refused read = by not.why not.cause not.status_is where
     by : (why : StartFault) → HasCauseToRefuse why words keeper not.left → status ≡ start_status why
@@ -165,16 +165,16 @@ module _ (words : List (List ℕ)) (keeper : Store) (back : Option Store) (befor
     by start.Words cause is = absurd (false≢true (sym (ap is_some cause.0) ∙ read))
 
   pub top_refused : Serves words keeper back before after status
-      → IfSome keeper.told (λ entries. is_refused (opening_of entries) ≡ true → is_some (serve_words_of words) ≡ true
+      → IfSome keeper.contents (λ entries. is_refused (opening_of entries) ≡ true → is_some (serve_words_of words) ≡ true
       → (status ≡ 6) ⊎ ((status ≡ 7) ⊎ (status ≡ 9)))
-  top_refused serves = if_told keeper.told
+  top_refused serves = if_contents keeper.contents
       (λ entries. is_refused (opening_of entries) ≡ true → is_some (serve_words_of words) ≡ true
       → (status ≡ 6) ⊎ ((status ≡ 7) ⊎ (status ≡ 9)))
       (λ entries told. refused_entries serves entries told)
 
   -- entries that open to rows
   complete_entries : Serves words keeper back before after status → (entries : List Entry)
-      → keeper.told ≡ Some entries → (s : State) → opening_of entries ≡ opened s
+      → keeper.contents ≡ Some entries → (s : State) → opening_of entries ≡ opened s
       → is_some (serve_words_of words) ≡ true
       → (status ≡ 0) ⊎ ((status ≡ 6) ⊎ ((status ≡ 9) ⊎ ((status ≡ 11) ⊎ (status ≡ 12))))
   complete_entries (inl begun) entries told s opens read = by begun.ends begun.status_is where
@@ -187,7 +187,7 @@ module _ (words : List (List ℕ)) (keeper : Store) (back : Option Store) (befor
   complete_entries (inr not) entries told s opens read = by not.why not.cause not.status_is where
     never : (opening : Opening) → is_refused opening ≡ true → OpensToNone opening keeper not.left → ⊥
     never opening refused none = false≢true (ap is_refused (sym opens
-        ∙ (ap opening_of (subst (λ o. IfSome o (λ es. es ≡ none.entries)) told none.told) ∙ none.opens)) ∙ refused)
+        ∙ (ap opening_of (subst (λ o. IfSome o (λ es. es ≡ none.entries)) told none.contents) ∙ none.opens)) ∙ refused)
 
     by : (why : StartFault) → HasCauseToRefuse why words keeper not.left → status ≡ start_status why
         → (status ≡ 0) ⊎ ((status ≡ 6) ⊎ ((status ≡ 9) ⊎ ((status ≡ 11) ⊎ (status ≡ 12))))
@@ -197,10 +197,10 @@ module _ (words : List (List ℕ)) (keeper : Store) (back : Option Store) (befor
     by start.Words cause is = absurd (false≢true (sym (ap is_some cause.0) ∙ read))
 
   pub top_complete : Serves words keeper back before after status
-      → IfSome keeper.told (λ entries. (s : State) → opening_of entries ≡ opened s
+      → IfSome keeper.contents (λ entries. (s : State) → opening_of entries ≡ opened s
       → is_some (serve_words_of words) ≡ true
       → (status ≡ 0) ⊎ ((status ≡ 6) ⊎ ((status ≡ 9) ⊎ ((status ≡ 11) ⊎ (status ≡ 12)))))
-  top_complete serves = if_told keeper.told
+  top_complete serves = if_contents keeper.contents
       (λ entries. (s : State) → opening_of entries ≡ opened s → is_some (serve_words_of words) ≡ true
       → (status ≡ 0) ⊎ ((status ≡ 6) ⊎ ((status ≡ 9) ⊎ ((status ≡ 11) ⊎ (status ≡ 12)))))
       (λ entries told. complete_entries serves entries told)

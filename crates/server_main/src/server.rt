@@ -252,14 +252,14 @@ where
     // Words that are not read, and entries that open to no rows: no server is begun.
     ensures not_read { serve_words_of (map (λ w. string_bytes w) words.now) ≡ None
         → (result.0 ≡ 8) ⊎ (result.0 ≡ 9) }
-    ensures refused { IfSome (R.store keeper).told (λ entries.
+    ensures refused { IfSome (R.store keeper).contents (λ entries.
         is_refused (opening_of entries) ≡ true
         → is_some (serve_words_of (map (λ w. string_bytes w) words.now)) ≡ true
         → (result.0 ≡ 6) ⊎ ((result.0 ≡ 7) ⊎ (result.0 ≡ 9))) }
 
     // Words that are read, entries that open to rows, and no fault of keeper, doors and spawner: the
     // links are served, or memory was refused.
-    ensures complete { IfSome (R.store keeper).told (λ entries. (s : State)
+    ensures complete { IfSome (R.store keeper).contents (λ entries. (s : State)
         → opening_of entries ≡ opened s
         → is_some (serve_words_of (map (λ w. string_bytes w) words.now)) ≡ true
         → (result.0 ≡ 0) ⊎ ((result.0 ≡ 6) ⊎ ((result.0 ≡ 9) ⊎ ((result.0 ≡ 11) ⊎ (result.0 ≡ 12))))) }

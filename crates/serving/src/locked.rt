@@ -72,7 +72,7 @@ impl<H: Host + Drop, R: Wait + Copy> LockedHost<H, R> {
 impl<H: Host, R: Wait> Host for LockedHost<H, R> {
     ghost use Rattle.std.specs.Prelude.{None};
 
-    ghost told = { λ _. None };
+    ghost contents = { λ _. None };
 
     ghost failures = { λ h. h };
 

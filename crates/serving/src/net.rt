@@ -143,7 +143,7 @@ where
     let listener = listener.as_ref()?;
     for _ in 0..u64::MAX {
         match listener.accept() {
-            Ok((stream, _)) => match link_of(stream, times) {
+            Ok((stream, _)) => match url_of(stream, times) {
                 Ok(link) => return Some(link),
                 Err(kind) => events.failed(kind),
             },
@@ -155,7 +155,7 @@ where
 }
 
 /// The two handles of a stream.
-fn link_of<S: Read + Write + OpenStream + Drop>(
+fn url_of<S: Read + Write + OpenStream + Drop>(
     stream: S,
     times: LinkTimes,
 ) -> Result<Link<ReaderSource<S>, WriterSink<S>>, ErrorKind> {

@@ -13,8 +13,8 @@ pub fn pass_on<H: Host>(
     count: &mut u64,
     call: &HostCall,
 ) -> Result<(), Or<HostFailed>>
-    ensures ok { OnOk result (H.told host.new ≡ option_map (effect_of call.now) (H.told host.old)) }
-    ensures err { OnErr result (H.told host.new ≡ H.told host.old) }
+    ensures ok { OnOk result (H.contents host.new ≡ option_map (effect_of call.now) (H.contents host.old)) }
+    ensures err { OnErr result (H.contents host.new ≡ H.contents host.old) }
     ensures cause { HasCauseOrMemory (H.failures host.old) (H.failures host.new) result }
     ensures count { count.new ≡ counted count.old result }
 {

@@ -119,7 +119,7 @@ impl SqliteKeeper {
 }
 
 impl Keeper for SqliteKeeper {
-    ghost store = { λ k. record { told = None; calls = k.calls; failures = k.failures } };
+    ghost store = { λ k. record { contents = None; calls = k.calls; failures = k.failures } };
 
     fn load(&mut self) -> Result<Seq<Entry>, Or<KeeperFailed>>
         ensures ordered { IfOk result IsOrderedEntries }

@@ -6,8 +6,8 @@ use config_lists::{Config, Devices};
 use operations::Operation;
 use records::{Instance, Network, Pool, Profile, Project, Snapshot, Volume};
 use reservations::{Books, Hold};
-use row_machine::Work;
-use row_readings::{InstancePower, Named, View, rises};
+use row_machine::Task;
+use row_readings::{InstancePower, Named, StateRef, rises};
 use size_values::{Amounts, Boxed, NoMemory, Text};
 use std::alloc::Global;
 
@@ -49,8 +49,8 @@ pub struct Rows {
     pub instances: Vec<Boxed<Instance>>,
     pub snapshots: Vec<Boxed<Snapshot>>,
     pub powers: Vec<InstancePower>,
-    pub live: Vec<Operation<Work>>,
-    pub ended: Vec<Operation<Work>>,
+    pub live: Vec<Operation<Task>>,
+    pub ended: Vec<Operation<Task>>,
     pub next: u64,
     pub held: Vec<Hold>,
     pub books: Books,
@@ -77,8 +77,8 @@ impl Rows {
     }
 
     /// The rows, lent; of a kind whose rows do not rise by their names, none.
-    pub fn view(&self) -> View<'_> {
-        View {
+    pub fn view(&self) -> StateRef<'_> {
+        StateRef {
             projects: in_order(&self.projects),
             profiles: in_order(&self.profiles),
             networks: in_order(&self.networks),
@@ -97,7 +97,7 @@ impl Rows {
     }
 
     /// The same, before the last operation was entered.
-    pub fn before_last(&self) -> View<'_> {
+    pub fn before_last(&self) -> StateRef<'_> {
         let mut view = self.view();
         if let Some((_, front)) = self.live.split_last() {
             view.live = front;

@@ -4,8 +4,8 @@
 
 use config_lists::Device;
 use records::{Instance, Profile, Project, Row, Volume};
-use row_machine::Work;
-use row_readings::View;
+use row_machine::Task;
+use row_readings::StateRef;
 use size_values::{
     Boxed, Cpu, Kind, Memory, read_boolean, read_count, read_cpu, read_memory, read_size,
 };
@@ -65,12 +65,12 @@ impl Sums {
 }
 
 /// The project of a name.
-pub fn project_named<'a>(view: &View<'a>, name: &str) -> Option<&'a Project> {
+pub fn project_named<'a>(view: &StateRef<'a>, name: &str) -> Option<&'a Project> {
     view.projects.iter().find(|row| row.name.view() == name)
 }
 
 /// The project whose profiles the instances of a project use.
-fn home_of<'a>(view: &View<'_>, project: &'a str) -> &'a str {
+fn home_of<'a>(view: &StateRef<'_>, project: &'a str) -> &'a str {
     let own = match project_named(view, project) {
         Some(row) => row.config.get("features.profiles"),
         None => None,
@@ -88,12 +88,12 @@ fn home_of<'a>(view: &View<'_>, project: &'a str) -> &'a str {
 }
 
 /// The profile of a name in a project.
-fn profile_named<'a>(view: &View<'a>, home: &str, name: &str) -> Option<&'a Boxed<Profile>> {
+fn profile_named<'a>(view: &StateRef<'a>, home: &str, name: &str) -> Option<&'a Boxed<Profile>> {
     view.profiles.iter().find(|row| row.project.view() == home && row.name.view() == name)
 }
 
 /// The setting of the last profile of an instance that has it.
-fn setting_of_profiles<'a>(view: &View<'a>, row: &Instance, key: &str) -> Option<&'a str> {
+fn setting_of_profiles<'a>(view: &StateRef<'a>, row: &Instance, key: &str) -> Option<&'a str> {
     let home = home_of(view, row.project.view());
     for name in row.profiles.view().iter().rev() {
         if let Some(profile) = profile_named(view, home, name.view()) {
@@ -139,7 +139,7 @@ impl Part {
 
     /// The amount of the setting that an instance has in the end: its own, or that of the last
     /// profile that has it.
-    fn of(self, view: &View<'_>, row: &Instance) -> u128 {
+    fn of(self, view: &StateRef<'_>, row: &Instance) -> u128 {
         let own = row.config.get(self.key());
         match own.or(setting_of_profiles(view, row, self.key())) {
             Some(value) => self.amount_in(value),
@@ -150,7 +150,7 @@ impl Part {
 
 /// Whether an instance, or one of its profiles from this place of its list on, has a device of this
 /// name.
-fn is_covered(view: &View<'_>, row: &Instance, name: &str, from: usize) -> bool {
+fn is_covered(view: &StateRef<'_>, row: &Instance, name: &str, from: usize) -> bool {
     let home = home_of(view, row.project.view());
     row.devices.get(name).is_some()
         || row.profiles.view().iter().skip(from).any(|profile| {
@@ -187,7 +187,7 @@ fn own_disk(row: &Instance) -> u128 {
 
 /// The size of the root disk among the devices of a profile, which stands before this place of the
 /// list, that no later layer replaces.
-fn profile_disk(view: &View<'_>, row: &Instance, profile: &Profile, after: usize) -> u128 {
+fn profile_disk(view: &StateRef<'_>, row: &Instance, profile: &Profile, after: usize) -> u128 {
     let mut sum = 0u128;
     for place in 0..profile.devices.len() {
         if !is_covered(view, row, profile.devices.name_at(place), after) {
@@ -198,7 +198,7 @@ fn profile_disk(view: &View<'_>, row: &Instance, profile: &Profile, after: usize
 }
 
 /// The size of the root disk that an instance has in the end.
-fn disk_of(view: &View<'_>, row: &Instance) -> u128 {
+fn disk_of(view: &StateRef<'_>, row: &Instance) -> u128 {
     let home = home_of(view, row.project.view());
     let mut sum = own_disk(row);
     for (place, name) in row.profiles.view().iter().enumerate() {
@@ -211,7 +211,7 @@ fn disk_of(view: &View<'_>, row: &Instance) -> u128 {
 }
 
 /// What an instance uses.
-pub fn instance_sums(view: &View<'_>, row: &Instance) -> Sums {
+pub fn instance_sums(view: &StateRef<'_>, row: &Instance) -> Sums {
     let is_machine = row.kind == Kind::Machine;
     Sums {
         instances: 1,
@@ -240,7 +240,7 @@ fn volume_sums(row: &Volume) -> Sums {
 }
 
 /// What the instances of a project use.
-fn sums_of_instances(view: &View<'_>, project: &str) -> Sums {
+fn sums_of_instances(view: &StateRef<'_>, project: &str) -> Sums {
     let mut sums = NOTHING;
     for row in view.instances {
         if row.project.view() == project {
@@ -252,7 +252,7 @@ fn sums_of_instances(view: &View<'_>, project: &str) -> Sums {
 
 /// The instance that an operation would replace, if it is of the same project as the row that the
 /// operation would put.
-fn replaced<'a>(view: &View<'a>, work: &Work, row: &Instance) -> Option<&'a Boxed<Instance>> {
+fn replaced<'a>(view: &StateRef<'a>, work: &Task, row: &Instance) -> Option<&'a Boxed<Instance>> {
     match &work.replaces {
         Some((project, name)) => {
             let project = project.view();
@@ -268,7 +268,7 @@ fn replaced<'a>(view: &View<'a>, work: &Work, row: &Instance) -> Option<&'a Boxe
 }
 
 /// What the claim of an operation adds to what its project uses.
-pub fn claim_sums(view: &View<'_>, work: &Work) -> Sums {
+pub fn claim_sums(view: &StateRef<'_>, work: &Task) -> Sums {
     match &work.claim {
         Some(Row::Instance(row)) => match replaced(view, work, row) {
             Some(old) => instance_sums(view, row).beyond(instance_sums(view, old)),
@@ -280,7 +280,7 @@ pub fn claim_sums(view: &View<'_>, work: &Work) -> Sums {
 }
 
 /// Whether an operation would put a row into a project.
-fn is_claim_in(work: &Work, project: &str) -> bool {
+fn is_claim_in(work: &Task, project: &str) -> bool {
     match &work.claim {
         Some(Row::Instance(row)) => row.project.view() == project,
         Some(Row::Volume(row)) => row.project.view() == project,
@@ -289,7 +289,7 @@ fn is_claim_in(work: &Work, project: &str) -> bool {
 }
 
 /// What the live operations hold that would put a row into a project.
-fn sums_of_claims(view: &View<'_>, project: &str) -> Sums {
+fn sums_of_claims(view: &StateRef<'_>, project: &str) -> Sums {
     let mut sums = NOTHING;
     for operation in view.live {
         if is_claim_in(&operation.work, project) {
@@ -299,7 +299,7 @@ fn sums_of_claims(view: &View<'_>, project: &str) -> Sums {
     sums
 }
 
-fn sums_of_volumes(view: &View<'_>, project: &str) -> Sums {
+fn sums_of_volumes(view: &StateRef<'_>, project: &str) -> Sums {
     let mut sums = NOTHING;
     for row in view.volumes {
         if row.project.view() == project {
@@ -309,7 +309,7 @@ fn sums_of_volumes(view: &View<'_>, project: &str) -> Sums {
     sums
 }
 
-fn sums_of_networks(view: &View<'_>, project: &str) -> Sums {
+fn sums_of_networks(view: &StateRef<'_>, project: &str) -> Sums {
     let mut networks = 0u128;
     for row in view.networks {
         if row.project.view() == project {
@@ -323,7 +323,7 @@ fn sums_of_networks(view: &View<'_>, project: &str) -> Sums {
 }
 
 /// All that a project uses.
-pub fn sums_of(view: &View<'_>, project: &str) -> Sums {
+pub fn sums_of(view: &StateRef<'_>, project: &str) -> Sums {
     sums_of_instances(view, project)
         .plus(sums_of_claims(view, project))
         .plus(sums_of_volumes(view, project))

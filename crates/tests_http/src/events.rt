@@ -134,12 +134,12 @@ fn is_filter(filter: &Filter, life: bool, op: bool, project: &str) -> bool {
 
 /// Whether this is the refusal of a query that tells the key and nothing else.
 fn is_refused(refusal: &Refusal, key: &str) -> bool {
-    let kept = &refusal.kept;
+    let details = &refusal.details;
     (refusal.rule == Rule::A3)
-        & (kept.key.view() == key)
-        & kept.kind.is_empty()
-        & kept.name.is_empty()
-        & kept.project.is_empty()
+        & (details.key.view() == key)
+        & details.kind.is_empty()
+        & details.name.is_empty()
+        & details.project.is_empty()
 }
 
 fn is_wanted(answer: &Result<Option<Filter>, Or<Refusal>>, want: Want) -> bool {

@@ -3,7 +3,7 @@ use config_lists::{Config, Devices};
 use core_drafts::Draft;
 use records::{Instance, Network, Row};
 use row_machine::RowChange;
-use row_readings::View;
+use row_readings::StateRef;
 use size_values::{Boxed, Kind, NoMemory, Power, Seq, Text};
 use std::alloc::Global;
 
@@ -126,7 +126,7 @@ fn changed(alloc: Global, given: &[Given]) -> Option<Draft> {
         return None;
     }
     draft.apply(changes);
-    draft.settle();
+    draft.keep_changes();
     Some(draft)
 }
 
@@ -135,7 +135,7 @@ fn is_text(text: &Text, wanted: &str) -> bool {
 }
 
 /// Whether these networks stand there, in this order, and no others.
-fn are_networks(view: &View<'_>, wanted: &[Given]) -> bool {
+fn are_networks(view: &StateRef<'_>, wanted: &[Given]) -> bool {
     view.networks.len() == wanted.len()
         && view.networks.iter().zip(wanted).all(|(row, given)| {
             is_text(&row.project, given.0)
@@ -144,7 +144,7 @@ fn are_networks(view: &View<'_>, wanted: &[Given]) -> bool {
         })
 }
 
-fn are_instances(view: &View<'_>, wanted: &[Given]) -> bool {
+fn are_instances(view: &StateRef<'_>, wanted: &[Given]) -> bool {
     view.instances.len() == wanted.len()
         && view.instances.iter().zip(wanted).all(|(row, given)| {
             is_text(&row.project, given.0)
@@ -154,7 +154,7 @@ fn are_instances(view: &View<'_>, wanted: &[Given]) -> bool {
 }
 
 /// Whether each of these instances is stopped, and no other has a status.
-fn are_stopped(view: &View<'_>, wanted: &[Given]) -> bool {
+fn are_stopped(view: &StateRef<'_>, wanted: &[Given]) -> bool {
     view.powers.len() == wanted.len()
         && view.powers.iter().zip(wanted).all(|(power, given)| {
             is_text(&power.project, given.0)

@@ -137,7 +137,7 @@ fn stays(alloc: Global, draft: &mut Draft) -> bool
     let none = entries.is_empty();
     drop(entries);
     draft.apply(changes);
-    draft.settle();
+    draft.keep_changes();
     none && draft.view().profiles.is_empty()
 }
 
@@ -162,7 +162,7 @@ fn is_taken_back(alloc: Global, draft: &mut Draft) -> bool
     }
     draft.apply(changes);
     let put = draft.view().profiles.len() == 1;
-    draft.take_back();
+    draft.undo_changes();
     put && draft.view().profiles.is_empty()
 }
 
@@ -194,7 +194,7 @@ fn tells_patch(alloc: Global, estate: &mut Estate, keeper: &mut MapKeeper) -> bo
 
 /// Whether a notice waits, which is taken.
 fn is_told(alloc: Global, estate: &mut Estate) -> bool {
-    match estate.take_told(alloc) {
+    match estate.take_event(alloc) {
         Ok(taken) => {
             let told = taken.is_some();
             drop(taken);

@@ -2,9 +2,9 @@ use config_lists::Devices;
 use expansion::Expanded;
 use operations::{OpFault, Operation, Status};
 use records::{Instance, Profile, Row, Target, Volume};
-use row_machine::Work;
+use row_machine::Task;
 use row_readings::{
-    View, claimed_instance, claimed_snapshot, claimed_volume, project_of_row, usage_of,
+    StateRef, claimed_instance, claimed_snapshot, claimed_volume, project_of_row, usage_of,
 };
 use size_values::{Amounts, Boxed, Deed, Kind, NoMemory, ObjectKind, Seq, Text};
 use std::alloc::Global;
@@ -175,12 +175,12 @@ fn target(alloc: Global) -> Result<Target, NoMemory> {
 }
 
 /// The update of the instance to 4 processors and 1 GiB of memory.
-fn update(alloc: Global) -> Result<Work, NoMemory> {
+fn update(alloc: Global) -> Result<Task, NoMemory> {
     let about = both(Text::from_text(alloc, "lab"), target(alloc));
     let about = both(about, texts(alloc, "lab", "a"));
     let row = instance(alloc, &[("limits.cpu", "4"), ("limits.memory", "1GiB")]);
     let (((project, target), replaces), row) = both(about, Boxed::of(alloc, row))?;
-    Ok(Work {
+    Ok(Task {
         deed: Deed::Update,
         project,
         target,
@@ -194,7 +194,7 @@ fn update(alloc: Global) -> Result<Work, NoMemory> {
 }
 
 /// An operation while it runs.
-fn running(work: Work) -> Operation<Work> {
+fn running(work: Task) -> Operation<Task> {
     Operation {
         number: 1,
         created: 0,
@@ -206,7 +206,7 @@ fn running(work: Work) -> Operation<Work> {
     }
 }
 
-fn add_update(alloc: Global, live: &mut Vec<Operation<Work>>) -> Result<(), NoMemory> {
+fn add_update(alloc: Global, live: &mut Vec<Operation<Task>>) -> Result<(), NoMemory> {
     live.push(running(update(alloc)?))?;
     Ok(())
 }
@@ -236,7 +236,7 @@ fn has(expanded: &Expanded, device: &str, len: usize, key: &str, value: &str) ->
 /// The same of the first instance.
 fn first_has(
     alloc: Global,
-    view: &View<'_>,
+    view: &StateRef<'_>,
     device: &str,
     len: usize,
     key: &str,
@@ -287,7 +287,7 @@ fn amounts(containers: u128, cpu: u128, memory: u128, disk: u128) -> Amounts {
 }
 
 /// Whether a project uses these amounts.
-fn uses(alloc: Global, view: &View<'_>, project: &str, used: &Amounts) -> bool {
+fn uses(alloc: Global, view: &StateRef<'_>, project: &str, used: &Amounts) -> bool {
     view.usage(alloc, project) == Ok(*used)
 }
 
@@ -326,11 +326,11 @@ fn add_shop_instances(alloc: Global, instances: &mut Vec<Boxed<Instance>>) -> Re
 }
 
 /// The creation of a volume of the project `shop`, by an operation of the project `lab`.
-fn creation(alloc: Global) -> Result<Work, NoMemory> {
+fn creation(alloc: Global) -> Result<Task, NoMemory> {
     let about = both(Text::from_text(alloc, "lab"), target(alloc));
     let row = volume(alloc, "shop", "4GiB");
     let ((project, target), row) = both(about, Boxed::of(alloc, row))?;
-    Ok(Work {
+    Ok(Task {
         deed: Deed::CopyVolume,
         project,
         target,
@@ -343,7 +343,7 @@ fn creation(alloc: Global) -> Result<Work, NoMemory> {
     })
 }
 
-fn add_creation(alloc: Global, live: &mut Vec<Operation<Work>>) -> Result<(), NoMemory> {
+fn add_creation(alloc: Global, live: &mut Vec<Operation<Task>>) -> Result<(), NoMemory> {
     live.push(running(creation(alloc)?))?;
     Ok(())
 }
@@ -357,7 +357,7 @@ fn fill_shop(alloc: Global, rows: &mut Rows) -> Result<(), NoMemory> {
 }
 
 /// Whether a project uses these amounts, by either way to sum them.
-fn both_sum_to(alloc: Global, view: &View<'_>, project: &str, used: &Amounts) -> bool {
+fn both_sum_to(alloc: Global, view: &StateRef<'_>, project: &str, used: &Amounts) -> bool {
     usage_of(alloc, view, project) == Ok(*used) && uses(alloc, view, project, used)
 }
 
@@ -382,7 +382,7 @@ fn each_project_uses_its_own(rt: HostRuntime) {
 }
 
 /// Whether each row is found by its names, and none by other ones.
-fn finds_rows(view: &View<'_>) -> bool {
+fn finds_rows(view: &StateRef<'_>) -> bool {
     view.profile_named("default", "more").is_some()
         && view.profile_named("lab", "more").is_none()
         && view.volume_named("lab", "p0", "v").is_some()
@@ -396,14 +396,14 @@ fn finds_rows(view: &View<'_>) -> bool {
 }
 
 /// Whether a project that is missing has its profiles, networks and volumes in the project `default`.
-fn finds_homes(view: &View<'_>) -> bool {
+fn finds_homes(view: &StateRef<'_>) -> bool {
     view.profile_home("lab") == "default"
         && view.network_home("lab") == "default"
         && view.volume_home("lab") == "default"
 }
 
 /// Whether an operation claims an instance of the project `lab`, and nothing else.
-fn claims_instance(work: &Work) -> bool {
+fn claims_instance(work: &Task) -> bool {
     let project = match &work.claim {
         Some(row) => project_of_row(row),
         None => "",
@@ -414,14 +414,14 @@ fn claims_instance(work: &Work) -> bool {
         && claimed_snapshot(work).is_none()
 }
 
-fn first_claims(view: &View<'_>) -> bool {
+fn first_claims(view: &StateRef<'_>) -> bool {
     match view.live.first() {
         Some(operation) => claims_instance(&operation.work),
         None => false,
     }
 }
 
-fn is_found(view: &View<'_>) -> bool {
+fn is_found(view: &StateRef<'_>) -> bool {
     finds_rows(view) && finds_homes(view) && first_claims(view)
 }
 

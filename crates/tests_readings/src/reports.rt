@@ -6,7 +6,7 @@ ghost use Rattle.size_values.specs.declared.amounts.Part.{Part};
 use config_lists::Config;
 use records::Project;
 use reservations::Books;
-use row_readings::View;
+use row_readings::StateRef;
 use serial_run::check_report;
 use size_values::{Amounts, NoMemory, Text};
 use std::alloc::Global;
@@ -73,7 +73,7 @@ fn no_books() -> Books
 fn is_told(alloc: Global, projects: &[Project], books: Books, text: &str) -> bool
     requires { (k : Part) → part k books.granted ≡ part k books.converted + part k books.returned + 0 }
 {
-    let view = View {
+    let view = StateRef {
         projects: in_order(projects),
         profiles: &[],
         networks: &[],

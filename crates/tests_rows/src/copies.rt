@@ -1,11 +1,11 @@
 //! Copies of notices and refusals.
 use crate::given::text_of;
-use records::{Kept, Life, Notice, OpFault, OpView, Refusal, Rule, Status, Target, Told};
+use records::{Details, EventBody, Life, Notice, OpFault, OpView, Refusal, Rule, Status, Target};
 use size_values::{ObjectKind, Text};
 use std::alloc::Global;
 
-fn operation_of(alloc: Global) -> Told {
-    Told::Op(OpView {
+fn operation_of(alloc: Global) -> EventBody {
+    EventBody::Op(OpView {
         number: 7,
         status: Status::Running,
         may_cancel: true,
@@ -22,20 +22,20 @@ fn operation_of(alloc: Global) -> Told {
     })
 }
 
-fn life_of(alloc: Global) -> Told {
-    Told::Life {
+fn life_of(alloc: Global) -> EventBody {
+    EventBody::Life {
         action: Life::InstanceStarted,
         source: text_of(alloc, "/1.0/instances/c1?project=lab"),
     }
 }
 
 /// Whether the notice that tells this is copied.
-fn is_told(alloc: Global, told: Told) -> bool {
+fn is_told(alloc: Global, body: EventBody) -> bool {
     let notice = Notice {
         number: 1,
         moment: 1_700_000_001,
         project: text_of(alloc, "lab"),
-        told,
+        body,
     };
     let copy = notice.copy(alloc);
     drop(notice);
@@ -47,7 +47,7 @@ fn is_told(alloc: Global, told: Told) -> bool {
 fn is_refusal_copied(alloc: Global) -> bool {
     let refusal = Refusal {
         rule: Rule::N4,
-        kept: Kept {
+        details: Details {
             kind: text_of(alloc, "project"),
             project: Text::new(alloc),
             name: text_of(alloc, "lab"),

@@ -11,7 +11,7 @@ struct Worn;
 impl Host for Worn {
     ghost use Rattle.std.specs.Prelude.{None};
 
-    ghost told = { λ _. None };
+    ghost contents = { λ _. None };
 
     ghost failures = { λ _. 18446744073709551615 };
 

@@ -4,7 +4,7 @@ use config_lists::Config;
 use host_model::{HostCall, Place};
 use instance_states::CallName;
 use records::{Row, Target};
-use row_machine::Work;
+use row_machine::Task;
 use size_values::{Deed, Text};
 
 /// A call, the name of the root that it is made on, and a text that it gives: an image, the name that a root gets, a
@@ -128,7 +128,7 @@ fn is_source(source: &Option<Target>, name: &str) -> bool {
 }
 
 /// Whether the operation is this one.
-pub(crate) fn is_begun(work: &Work, begun: &Begun) -> bool {
+pub(crate) fn is_begun(work: &Task, begun: &Begun) -> bool {
     work.deed == begun.deed
         && work.project.view() == begun.project
         && work.target.name.view() == begun.name

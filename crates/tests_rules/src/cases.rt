@@ -3,7 +3,7 @@ use crate::begun::{Begun, Call, is_begun};
 use crate::rows::Rows;
 use instance_states::CallName;
 use plans_tasks::plan_task;
-use row_readings::View;
+use row_readings::StateRef;
 use size_values::{Action, Deed, ObjectKind};
 use std::alloc::Global;
 
@@ -313,7 +313,7 @@ const NOTHING: &[(&str, Asked)] = &[
 /// Whether the view's server begins this for what is asked, or nothing.
 fn is_planned(
     alloc: Global,
-    view: &View<'_>,
+    view: &StateRef<'_>,
     project: &str,
     asked: Asked,
     begun: Option<&Begun>,

@@ -6,12 +6,12 @@ use operations::{OpFault, Operation, Status};
 use plans_tasks::instance_creation;
 use project_limits::Limits;
 use records::{Body, Command, Driver, Origin, Pool, Project, Refusal, Row, Rule, Target, What};
-use row_machine::Work;
-use row_readings::{View, rows_of, usage_of};
+use row_machine::Task;
+use row_readings::{StateRef, rows_of, usage_of};
 use rules_conflicts::standing_broken;
 use rules_limits::{
-    InUse, claim_uncounts, counts_broken, limited_named, limited_projects, limits_broken,
-    limits_named, needs_usage, project_uncounted, share_broken, usage_before, uses_exceed,
+    InUse, claim_lacks_amount, counts_broken, limited_named, limited_projects, limits_broken,
+    limits_named, needs_usage, project_without_amount, share_broken, usage_before, uses_exceed,
 };
 use rules_names::names_broken;
 use rules_policy::{claim_forbidden, policy_broken, policy_broken_in};
@@ -203,7 +203,7 @@ fn command(alloc: Global, case: Creation) -> Result<Command, NoMemory> {
 }
 
 /// The rules before those that are judged with the claim.
-fn asked_broken(alloc: Global, view: &View<'_>, command: &Command) -> Result<(), Or<Refusal>> {
+fn asked_broken(alloc: Global, view: &StateRef<'_>, command: &Command) -> Result<(), Or<Refusal>> {
     names_broken(alloc, view, command)?;
     standing_broken(alloc, view, command)
 }
@@ -234,7 +234,7 @@ fn later_broken(alloc: Global, rows: &Rows) -> Result<(), Or<Refusal>> {
 }
 
 /// What a project uses of its limits.
-fn in_use(alloc: Global, view: &View<'_>, project: &str) -> Result<InUse, NoMemory> {
+fn in_use(alloc: Global, view: &StateRef<'_>, project: &str) -> Result<InUse, NoMemory> {
     let amounts = usage_of(alloc, view, project)?;
     let networks = rows_of(view.networks, project).len();
     Ok(InUse { amounts, networks })
@@ -253,7 +253,7 @@ fn project_broken(alloc: Global, rows: &Rows) -> Result<(), Or<Refusal>> {
     let Some(limited) = limited_named(&after, project, limits) else {
         return Ok(());
     };
-    project_uncounted(alloc, &after, &limited)?;
+    project_without_amount(alloc, &after, &limited)?;
     if !limited.has_limits() {
         return Ok(());
     }
@@ -265,7 +265,7 @@ fn project_broken(alloc: Global, rows: &Rows) -> Result<(), Or<Refusal>> {
 /// What a project uses, where its share is judged by it.
 fn used_beside(
     alloc: Global,
-    view: &View<'_>,
+    view: &StateRef<'_>,
     project: &str,
     limits: Option<Limits>,
 ) -> Result<Amounts, NoMemory>
@@ -289,13 +289,13 @@ fn alone_broken(alloc: Global, rows: &Rows) -> Result<(), Or<Refusal>> {
     claim_forbidden(alloc, &after, work)?;
     let limits = limits_named(&after, project);
     let limited = limited_named(&after, project, limits);
-    claim_uncounts(alloc, &after, &limited, work)?;
+    claim_lacks_amount(alloc, &after, &limited, work)?;
     let used = used_beside(alloc, &rows.before_last(), project, limits)?;
     share_broken(alloc, &limited, &used, &SHARE)
 }
 
 /// An operation that waits for its first call.
-fn pending(number: u64, work: Work) -> Operation<Work> {
+fn pending(number: u64, work: Task) -> Operation<Task> {
     Operation {
         number,
         created: 9,
@@ -308,7 +308,7 @@ fn pending(number: u64, work: Work) -> Operation<Work> {
 }
 
 /// What the creation begins, where it begins something.
-fn begun(alloc: Global, view: &View<'_>, command: &Command) -> Result<Option<Work>, NoMemory> {
+fn begun(alloc: Global, view: &StateRef<'_>, command: &Command) -> Result<Option<Task>, NoMemory> {
     match &command.what {
         What::Create { of, body } => instance_creation(alloc, view, &command.project, of, body, 9),
         _ => Ok(None),
@@ -316,7 +316,7 @@ fn begun(alloc: Global, view: &View<'_>, command: &Command) -> Result<Option<Wor
 }
 
 /// The claim of the last operation.
-fn last_claim<'x>(view: &View<'x>) -> Option<&'x Row> {
+fn last_claim<'x>(view: &StateRef<'x>) -> Option<&'x Row> {
     match view.live.last() {
         Some(operation) => operation.work.claim.as_ref(),
         None => None,

@@ -10,8 +10,6 @@ mod cases;
 #[cfg(test)]
 mod creations;
 #[cfg(test)]
-mod links;
-#[cfg(test)]
 mod parts;
 #[cfg(test)]
 mod profiles;
@@ -19,3 +17,5 @@ mod profiles;
 mod rows;
 #[cfg(test)]
 mod tables;
+#[cfg(test)]
+mod urls;

@@ -1,6 +1,6 @@
 use crate::creations::is_rule;
 use records::{Profile, Project, Rule};
-use row_readings::View;
+use row_readings::StateRef;
 use rules_policy::{policy_broken, profile_forbidden};
 use size_values::{Boxed, NoMemory, Text};
 use std::alloc::Global;
@@ -113,7 +113,7 @@ fn fill(alloc: Global, rows: &mut Rows, case: NewProfile) -> Result<(), NoMemory
 }
 
 /// Whether the last profile breaks this rule first, over all rows and by what it has alone.
-fn is_forbidden(alloc: Global, view: &View<'_>, rule: Option<Rule>) -> bool {
+fn is_forbidden(alloc: Global, view: &StateRef<'_>, rule: Option<Rule>) -> bool {
     let Some(profile) = view.profiles.last() else {
         return false;
     };

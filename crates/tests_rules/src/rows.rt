@@ -2,7 +2,7 @@
 use config_lists::{Config, Devices};
 use records::{Instance, Profile, Project, Snapshot, Volume};
 use reservations::Books;
-use row_readings::View;
+use row_readings::StateRef;
 use size_values::{Amounts, Boxed, Kind, Seq, Text};
 use std::alloc::Global;
 use tests_given::in_order;
@@ -161,8 +161,8 @@ impl Rows {
         add_boxed(alloc, &mut self.snapshots, snapshot(alloc));
     }
 
-    pub(crate) fn view(&self) -> View<'_> {
-        View {
+    pub(crate) fn view(&self) -> StateRef<'_> {
+        StateRef {
             projects: in_order(&self.projects),
             profiles: in_order(&self.profiles),
             networks: &[],

@@ -1,8 +1,8 @@
 use config_lists::{Config, Devices};
 use operations::{OpFault, Operation, Status};
-use records::{Instance, Kept, Profile, Refusal, Row, Rule, Snapshot, Target, Volume};
-use row_machine::Work;
-use row_readings::View;
+use records::{Details, Instance, Profile, Refusal, Row, Rule, Snapshot, Target, Volume};
+use row_machine::Task;
+use row_readings::StateRef;
 use rules_tables::{claim_tables_broken, tables_broken};
 use size_values::{Boxed, Deed, Kind, NoMemory, ObjectKind, Or, Seq, Text};
 use std::alloc::Global;
@@ -118,9 +118,9 @@ fn claim(alloc: Global, kind: ObjectKind) -> Result<Option<Row>, NoMemory> {
 }
 
 /// A creation that claims a row of a kind.
-fn work(alloc: Global, kind: ObjectKind) -> Result<Work, NoMemory> {
+fn work(alloc: Global, kind: ObjectKind) -> Result<Task, NoMemory> {
     let claim = claim(alloc, kind)?;
-    Ok(Work {
+    Ok(Task {
         deed: Deed::Create,
         project: Text::new(alloc),
         target: Target {
@@ -170,20 +170,20 @@ fn fill(
 }
 
 /// Whether a refusal keeps a kind and a number, and nothing else.
-fn keeps(kept: &Kept, kind: &str, number: u64) -> bool {
-    kept.kind.view() == kind
-        && kept.number == number
-        && kept.project.view().is_empty()
-        && kept.name.view().is_empty()
-        && kept.key.view().is_empty()
-        && kept.used == 0
-        && kept.asked == 0
-        && kept.limit == 0
+fn keeps(details: &Details, kind: &str, number: u64) -> bool {
+    details.kind.view() == kind
+        && details.number == number
+        && details.project.view().is_empty()
+        && details.name.view().is_empty()
+        && details.key.view().is_empty()
+        && details.used == 0
+        && details.asked == 0
+        && details.limit == 0
 }
 
 fn is_told(refusal: &Refusal, told: Option<(&str, u64)>) -> bool {
     match told {
-        Some((kind, cap)) => refusal.rule == Rule::C1 && keeps(&refusal.kept, kind, cap),
+        Some((kind, cap)) => refusal.rule == Rule::C1 && keeps(&refusal.details, kind, cap),
         None => false,
     }
 }
@@ -202,7 +202,7 @@ fn is_answer(answer: Result<(), Or<Refusal>>, told: Option<(&str, u64)>) -> bool
 }
 
 /// Whether a change at once and an operation are both answered so.
-fn both_answer(alloc: Global, after: &View<'_>, told: Option<(&str, u64)>) -> bool {
+fn both_answer(alloc: Global, after: &StateRef<'_>, told: Option<(&str, u64)>) -> bool {
     is_answer(tables_broken(alloc, after, &[]), told)
         && is_answer(claim_tables_broken(alloc, after, None), told)
 }

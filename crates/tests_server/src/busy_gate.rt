@@ -1,4 +1,4 @@
-//! A gate whose rests are busy: other links have their turns at the server in them.
+//! A gate that is busy while it idles: other links have their turns at the server then.
 ghost use Rattle.std.specs.Prelude.{None};
 
 use crate::links::{OwnGate, requests};
@@ -7,7 +7,7 @@ use serve_loop::Gate;
 use std::alloc::Global;
 use std::sync::Wait;
 
-/// In the first rest a link makes its requests. In the next ones the worker goes on; and after so many of them another
+/// The first time it idles, a link makes its requests; then the worker goes on; and after so many times another
 /// link changes a project again and again, so that events are lost. Where there are no requests, that begins at once.
 const WORKED: u64 = 20;
 
@@ -32,15 +32,15 @@ pub(crate) struct BusyGate<T> {
     pub(crate) inner: OwnGate,
     pub(crate) requests: &'static str,
     pub(crate) made: u64,
-    pub(crate) rests: u64,
+    pub(crate) idles: u64,
 }
 
 impl<T: Wait> Gate for BusyGate<T> {
-    ghost told = { λ _. None };
+    ghost contents = { λ _. None };
 
     ghost turned = { λ g. g.made };
 
-    ghost rested = { λ g. g.rests };
+    ghost idled = { λ g. g.idles };
 
     fn turn(&mut self, event: Event) -> Answer {
         let answer = self.inner.turn(event);
@@ -48,22 +48,22 @@ impl<T: Wait> Gate for BusyGate<T> {
         answer
     }
 
-    fn rest(&mut self) {
-        if self.requests.is_empty() || self.rests >= WORKED {
+    fn idle(&mut self) {
+        if self.requests.is_empty() || self.idles >= WORKED {
             change(&self.rt, self.alloc, &mut self.inner);
-        } else if self.rests == 0 {
+        } else if self.idles == 0 {
             requests(&self.rt, self.alloc, &mut self.inner, self.requests);
         } else {
-            self.inner.rest();
+            self.inner.idle();
         }
-        self.rests = self.rests.saturating_add(1);
+        self.idles = self.idles.saturating_add(1);
     }
 
     fn made(&self) -> u64 {
         self.made
     }
 
-    fn rests(&self) -> u64 {
-        self.rests
+    fn idles(&self) -> u64 {
+        self.idles
     }
 }

@@ -41,11 +41,11 @@ fn is_call(answer: &Answer) -> bool {
 }
 
 impl<G: Gate, T: Wait> Gate for HoldingGate<G, T> {
-    ghost told = { λ _. None };
+    ghost contents = { λ _. None };
 
     ghost turned = { λ g. G.turned g.inner };
 
-    ghost rested = { λ g. G.rested g.inner };
+    ghost idled = { λ g. G.idled g.inner };
 
     fn turn(&mut self, event: Event) -> Answer {
         if self.holds && !self.is_held {
@@ -59,16 +59,16 @@ impl<G: Gate, T: Wait> Gate for HoldingGate<G, T> {
         answer
     }
 
-    fn rest(&mut self) {
-        self.inner.rest();
+    fn idle(&mut self) {
+        self.inner.idle();
     }
 
     fn made(&self) -> u64 {
         self.inner.made()
     }
 
-    fn rests(&self) -> u64 {
-        self.inner.rests()
+    fn idles(&self) -> u64 {
+        self.inner.idles()
     }
 }
 
@@ -82,7 +82,7 @@ pub(crate) struct HeldHost<'x, H, T> {
 }
 
 impl<'x, H: Host, T: Wait + Clock> Host for HeldHost<'x, H, T> {
-    ghost told = { λ _. None };
+    ghost contents = { λ _. None };
 
     ghost failures = { λ h. H.failures h.host };
 

@@ -4,8 +4,8 @@ use crate::server::{LIMITS, Said, Server, Usage};
 use operations::Operation;
 use records::{LimitKeyName, Project};
 use reservations::Hold;
-use row_machine::Work;
-use row_readings::View;
+use row_machine::Task;
+use row_readings::StateRef;
 use size_values::{Amounts, read_count, read_size};
 use tests_given::{Sums, claim_sums, project_named, sums_of};
 
@@ -17,7 +17,7 @@ pub(crate) const PROJECTS: [&str; 4] = ["default", "lab", "off", "shop"];
 pub(crate) type Mark = ([usize; 9], u64, [Sums; 4]);
 
 /// A mark of what the server shows.
-pub(crate) fn mark_of(view: &View<'_>) -> Mark {
+pub(crate) fn mark_of(view: &StateRef<'_>) -> Mark {
     let counts = [
         view.projects.len(),
         view.profiles.len(),
@@ -132,7 +132,7 @@ fn held_in(held: &[Hold], place: usize) -> u128 {
 }
 
 /// Whether all that was ever granted was converted, returned or is held.
-fn books_balance(view: &View<'_>) -> bool {
+fn books_balance(view: &StateRef<'_>) -> bool {
     let granted = parts_of(&view.books.granted);
     let converted = parts_of(&view.books.converted);
     let returned = parts_of(&view.books.returned);
@@ -147,7 +147,7 @@ fn books_balance(view: &View<'_>) -> bool {
 
 /// Whether an operation holds what the row needs that it would put, above what that row replaces,
 /// by the profiles as they are now. Where it would put none, it holds nothing.
-fn holds_its_share(view: &View<'_>, operation: &Operation<Work>) -> bool {
+fn holds_its_share(view: &StateRef<'_>, operation: &Operation<Task>) -> bool {
     match view.held.iter().find(|hold| hold.op == operation.number) {
         Some(hold) => parts_of(&hold.share) == share_of(claim_sums(view, &operation.work)),
         None => false,
@@ -156,7 +156,7 @@ fn holds_its_share(view: &View<'_>, operation: &Operation<Work>) -> bool {
 
 /// Whether the books balance, and each live operation, of which there are not too many, holds its
 /// share.
-fn shares_stand(view: &View<'_>) -> bool {
+fn shares_stand(view: &StateRef<'_>) -> bool {
     view.held.len() == view.live.len()
         && view.live.len() <= 1_024
         && view.ended.len() <= 256

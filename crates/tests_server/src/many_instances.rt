@@ -76,7 +76,7 @@ struct IdleKeeper {
 }
 
 impl Keeper for IdleKeeper {
-    ghost store = { λ k. record { told = None; calls = k.calls; failures = 0 } };
+    ghost store = { λ k. record { contents = None; calls = k.calls; failures = 0 } };
 
     fn load(&mut self) -> Result<Seq<Entry>, Or<KeeperFailed>> {
         self.calls = self.calls.saturating_add(1);

@@ -167,7 +167,7 @@ fn cancels<T: Wait + Clock, G: Gate>(floor: &Floor<T>, gate: &mut G) -> bool {
             is_running = true;
             break;
         }
-        gate.rest();
+        gate.idle();
     }
     let is_cancelled = is_served(
         &floor.rt,

@@ -156,7 +156,7 @@ impl<R: Keeper + Drop> ServerOver<R> {
     }
 
     /// What the server shows.
-    pub(crate) fn view(&self) -> row_readings::View<'_> {
+    pub(crate) fn view(&self) -> row_readings::StateRef<'_> {
         self.daemon.view()
     }
 

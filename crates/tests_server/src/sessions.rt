@@ -125,7 +125,7 @@ fn listened<T: Wait + Copy>(
         inner,
         requests,
         made: 0,
-        rests: 0,
+        idles: 0,
     };
     let mut sink = ByteSink::new(alloc, Seq::new(alloc));
     let ends = event_session(&rt, alloc, &mut gate, &mut sink, KEY, &filter, 1);

@@ -5,7 +5,8 @@
 use crate::server::{Server, new_server, text};
 use config_lists::{Config, Devices};
 use records::{
-    Kept, Life, Notice, OpFault, OpView, Refusal, Reply, Rule, Snapshot, Status, Target, Told, View,
+    Details, EventBody, Life, Notice, OpFault, OpView, Refusal, Reply, Rule, Snapshot, Status,
+    Target, View,
 };
 use rest_routes::{print, print_notice};
 use size_values::{ObjectKind, Or, Seq, Text};
@@ -97,7 +98,7 @@ const NOTICES: &[(Life, &str, u64, &str)] = &[
 fn refusal(alloc: Global, rule: Rule) -> Reply {
     Reply::Refused(Refusal {
         rule,
-        kept: Kept {
+        details: Details {
             kind: text(alloc, "instance"),
             project: text(alloc, "p"),
             name: text(alloc, "n"),
@@ -182,7 +183,7 @@ fn prints_event(alloc: Global, life: Life, action: &str, moment: u64, date: &str
         number: 1,
         moment,
         project: text(alloc, "lab"),
-        told: Told::Life {
+        body: EventBody::Life {
             action: life,
             source: text(alloc, "/1.0/instances/b?project=lab"),
         },
@@ -203,13 +204,13 @@ fn prints_event(alloc: Global, life: Life, action: &str, moment: u64, date: &str
 fn is_unknown(why: &Or<Refusal>) -> bool {
     match why {
         Or::Why(refusal) => {
-            let kept = &refusal.kept;
+            let details = &refusal.details;
             refusal.rule == Rule::A1
-                && kept.kind.is_empty()
-                && kept.project.is_empty()
-                && kept.name.is_empty()
-                && kept.key.is_empty()
-                && kept.number == 0
+                && details.kind.is_empty()
+                && details.project.is_empty()
+                && details.name.is_empty()
+                && details.key.is_empty()
+                && details.number == 0
         }
         Or::NoMemory => false,
     }

@@ -17,7 +17,7 @@ use Rattle.option_tables.specs.Checks.{keys_fault, instance_fault, project_fault
 use Rattle.option_tables.specs.Forms.{value_fault}
 use Rattle.option_tables.specs.Tables.{instance_lines, project_lines, network_lines, pool_lines, volume_lines, device_lines, device_form, device_type, listed_form, form_of}
 use Rattle.project_limits.specs.Admission.{first_over, networks_over}
-use Rattle.project_limits.specs.Countable.{first_uncounted, volume_uncounted}
+use Rattle.project_limits.specs.Countable.{first_without_amount, volume_without_amount}
 use Rattle.project_limits.specs.Instance.{cpu_in, memory_in, disk_in, instance_amounts, volume_amounts}
 use Rattle.project_limits.specs.Limits.{count_in, size_in, limits_of}
 use Rattle.tests_settings.specs.DeviceOptions.{DeviceOptionsHold}
@@ -54,7 +54,7 @@ names_hold = record { names_are_judged = refl; devices_name = refl }
 pub limits_hold : LimitsHold
 unfolding
     count_of set_of cpu_of memory_of size_of value_of put replaced is_root_disk root_of first_over networks_over
-    first_uncounted volume_uncounted cpu_in memory_in disk_in instance_amounts volume_amounts count_in size_in limits_of
+    first_without_amount volume_without_amount cpu_in memory_in disk_in instance_amounts volume_amounts count_in size_in limits_of
 limits_hold = record {
   limits_are_read = refl;
   instances_count = refl;

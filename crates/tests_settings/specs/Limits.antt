@@ -8,7 +8,7 @@ use Rattle.size_values.specs.declared.amounts.Amounts.{Amounts}
 use Rattle.size_values.specs.declared.kinds.Kind.{Kind}
 use Rattle.size_values.specs.declared.kinds.Kind.TheVariants as kind
 use Rattle.project_limits.specs.Admission.{first_over, networks_over}
-use Rattle.project_limits.specs.Countable.{first_uncounted, volume_uncounted}
+use Rattle.project_limits.specs.Countable.{first_without_amount, volume_without_amount}
 use Rattle.project_limits.specs.Instance.{instance_amounts, volume_amounts}
 use Rattle.project_limits.specs.Limits.{limits_of}
 use Rattle.project_limits.specs.declared.admission.LimitKey.{LimitKey}
@@ -267,10 +267,12 @@ pub record LimitsHold : Type 0 where
   pub limits_are_read : Gives (λ rows. limits_of (settings rows)) read
   pub instances_count : Agree (λ row. instance_amounts row.0 row.1.0 row.1.1) (λ row. row.2) counted
   pub root_disks_count : Gives (λ disks. (instance_amounts kind.Container [] (devices disks)).disk) root_disks
-  pub limited_sums_need_numbers : Agree (λ row. first_uncounted row.0 row.1 row.2.0 row.2.1) (λ row. row.3) countable
-  pub unlimited_sums_do_not : Agree (λ row. first_uncounted no_limits row.1 row.2.0 row.2.1) (λ row. None) countable
+  pub limited_sums_need_numbers : Agree (λ row. first_without_amount row.0 row.1 row.2.0 row.2.1)
+      (λ row. row.3) countable
+  pub unlimited_sums_do_not : Agree (λ row. first_without_amount no_limits row.1 row.2.0 row.2.1)
+      (λ row. None) countable
   pub volumes_count : Agree (λ row. (volume_amounts (settings row.1)).disk) (λ row. row.2) volumes
-  pub limited_volumes_need_sizes : Agree (λ row. volume_uncounted row.0 (settings row.1)) (λ row. row.3) volumes
+  pub limited_volumes_need_sizes : Agree (λ row. volume_without_amount row.0 (settings row.1)) (λ row. row.3) volumes
   pub shares_fit : Agree
       (λ ten. map (λ share. first_over ten.1 (equal_amounts share.0) (equal_amounts share.1)) shares)
       (λ ten. map (told_of_share ten.0) shares) tens

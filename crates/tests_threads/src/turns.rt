@@ -90,7 +90,7 @@ fn with_turns<L: Ledger, R: Wait>(
     ticket
 }
 
-/// One ticket rests for half a minute at most while another makes turns that wake it: whether its rest ended sooner.
+/// One ticket idles for half a minute at most while another makes turns that wake it: whether it was woken sooner.
 fn woken<L: Ledger + Send + Sync, R: Threads + Wait + Clock + Sync>(
     rt: &R,
     alloc: Global,
@@ -106,13 +106,13 @@ fn woken<L: Ledger + Send + Sync, R: Threads + Wait + Clock + Sync>(
         blank,
     ).ok()?;
     let active = tickets.pop()?;
-    let resting = tickets.pop()?;
+    let idling = tickets.pop()?;
     let shared = &turnstile;
     let begun = Instant::now(rt).ok()?;
     join(
         rt,
         move || with_turns(rt, shared, active),
-        || shared.rest(rt, &resting, 30_000),
+        || shared.idle(rt, &idling, 30_000),
     );
     let spent = begun.elapsed(rt).ok()?;
     Some(spent < Duration::from_secs(20))
@@ -134,7 +134,7 @@ fn eight_tickets_on_eight_threads(rt: HostRuntime) {
 }
 
 #[test]
-fn a_turn_wakes_who_rests(rt: HostRuntime) {
+fn a_turn_wakes_who_idles(rt: HostRuntime) {
     assert!(rt;
         woken::<Brand, _>(&rt, rt.alloc(), Blank::new(2)) == Some(true),
         "woken by a turn"

@@ -4,7 +4,7 @@ ghost use Rattle.event_hub.specs.Short.{most_bytes};
 ghost use Rattle.event_hub.specs.Telling.{IsShort};
 
 use event_hub::{About, Hub, Progress};
-use records::{Filter, Life, Notice, OpFault, Status, Told, Untold};
+use records::{EventBody, Filter, Life, Notice, OpFault, Status, Untold};
 use row_machine::Fetched;
 use size_values::{NoMemory, ObjectKind, Text};
 use std::alloc::Global;
@@ -109,7 +109,7 @@ fn started_in(alloc: Global, project: &str) -> Result<Untold, NoMemory> {
     Ok(Untold {
         moment: 1_700_000_001,
         project,
-        told: Told::Life {
+        body: EventBody::Life {
             action: Life::InstanceStarted,
             source,
         },
@@ -158,15 +158,15 @@ fn have_all(notices: &[Notice], first: u64, next: u64) -> bool {
 
 /// Whether it is the notice of the running operation on `c1` in the project.
 fn is_running(notice: &Notice, project: &str) -> bool {
-    match &notice.told {
-        Told::Op(view) => {
+    match &notice.body {
+        EventBody::Op(view) => {
             (view.number == 7)
                 & (view.status == Status::Running)
                 & (view.project.view() == project)
                 & (view.target.name.view() == "c1")
                 & (notice.project.view() == project)
         }
-        Told::Life { .. } => false,
+        EventBody::Life { .. } => false,
     }
 }
 

@@ -1,7 +1,7 @@
 //! Operations that are entered, begun, cancelled and ended, step by step.
 ghost use Rattle.std.specs.Prelude.{◌≡◌, true, IfSome};
 ghost use Rattle.operations.specs.Statuses.{is_live};
-ghost use Rattle.operations.specs.Kept.{live_status};
+ghost use Rattle.operations.specs.OperationTable.{live_status};
 
 use operations::{CancelFault, EnterFault, LIVE_LIMIT, OpFault, Slots, Status};
 use std::alloc::Global;

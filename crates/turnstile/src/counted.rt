@@ -9,7 +9,7 @@ use std::sync::ledger::{Book, Ledger, Share};
 pub(crate) struct Counted<M, L: Ledger> {
     machine: M,
     turns: u64,
-    /// The number of the last turn after which those that rest were woken.
+    /// The number of the last turn after which those that idle were woken.
     woken: u64,
     book: Book<L>,
     ghost counted: { turns ≡ book.total },
@@ -34,7 +34,7 @@ impl<M, L: Ledger> Counted<M, L> {
         self.turns
     }
 
-    /// Whether those that rest were woken after this turn.
+    /// Whether those that idle were woken after this turn.
     pub(crate) fn has_woken_since(&self, turn: u64) -> bool {
         self.woken > turn
     }

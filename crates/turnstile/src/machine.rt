@@ -15,6 +15,6 @@ pub trait Machine {
         requires { takes event }
         ensures { may_answer event result };
 
-    /// Whether what others wait for may have come about by this event: those that rest are then woken.
+    /// Whether what others wait for may have come about by this event: those that idle are then woken.
     fn wakes(event: &Self::Event) -> bool;
 }

@@ -63,7 +63,7 @@ impl<M: Machine, L: Ledger> Turnstile<M, L> {
 
     /// Waits until the machine has taken an event that wakes since this ticket last turned it, or for so many
     /// milliseconds, or less.
-    pub fn rest<R: Wait + Clock>(&self, rt: &R, ticket: &Ticket<L>, ticks: u32) {
+    pub fn idle<R: Wait + Clock>(&self, rt: &R, ticket: &Ticket<L>, ticks: u32) {
         let counted = self.counted.lock(rt);
         if counted.has_woken_since(ticket.seen()) {
             return;

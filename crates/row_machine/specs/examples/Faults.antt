@@ -2,7 +2,7 @@
 -- outside made of each, and the exact answer, state or notices.
 use Rattle.std.specs.Prelude.{◌≡◌, ℕ, true, List, [], ◌∷◌, ◌++◌, map, Option, Some, None, option_map, option_and_then}
 use Rattle.std.specs.Prelude.{codes}
-use Rattle.row_machine.specs.Words.{Rise, OpFault, Status, kept_at, What, Filter, Life, Notice, Told}
+use Rattle.row_machine.specs.Words.{Rise, OpFault, Status, kept_at, What, Filter, Life, Notice, EventBody}
 use Rattle.row_machine.specs.Words.action
 use Rattle.row_machine.specs.Words.report
 use Rattle.row_machine.specs.Words.status
@@ -13,7 +13,7 @@ use Rattle.row_machine.specs.Words.kind
 use Rattle.size_values.specs.Amounts.{nothing}
 use Rattle.operations.specs.declared.operation.Operation.{Operation}
 use Rattle.operations.specs.declared.operation.OpFault.TheVariants as fault
-use Rattle.records.specs.declared.notices.Told.TheVariants as told
+use Rattle.records.specs.declared.notices.EventBody.TheVariants as body
 use Rattle.row_machine.specs.declared.events.Event.TheVariants as event
 use Rattle.row_machine.specs.declared.events.Answer.{Answer}
 use Rattle.row_machine.specs.declared.events.Answer.TheVariants as answer
@@ -98,13 +98,13 @@ pub data Short : Type 0 where
   is_now : ℕ → Status → Short
 
 -- a notice in short
-abbrev pub short : Told → Short
-short (told.Life action source) = did action
-short (told.Op view) = is_now view.number view.status
+abbrev pub short : EventBody → Short
+short (body.Life action source) = did action
+short (body.Op view) = is_now view.number view.status
 
 -- the numbers of the notices after all events, each with what it tells
 abbrev pub notices_after : Events → Option (List (ℕ × Short))
-notices_after events = option_map (λ state. map (λ (notice : Notice). (notice.number, short notice.told)) state.notices)
+notices_after events = option_map (λ state. map (λ (notice : Notice). (notice.number, short notice.body)) state.notices)
     (state_after events)
 
 -- The operation is told at its beginning, when it runs, and at its end, and the new instance before that end.
@@ -132,7 +132,7 @@ pool_made number = record {
   number = number;
   moment = 0;
   project = default;
-  told = told.Life life.PoolCreated (codes "/1.0/storage-pools/p0");
+  body = body.Life life.PoolCreated (codes "/1.0/storage-pools/p0");
 }
 
 -- a server whose notices before the fifth are no longer kept

@@ -20,10 +20,10 @@ use Rattle.row_machine.specs.declared.events.Answer.{Answer}
 use Rattle.row_machine.specs.declared.events.Answer.TheVariants as answer
 use Rattle.row_machine.specs.machine.Task.{Task}
 use Rattle.row_machine.specs.machine.State.{State}
-use Rattle.row_machine.specs.machine.Refusals.{nothing_told, on_project, on_key_of, on_object}
+use Rattle.row_machine.specs.machine.Refusals.{no_details, on_project, on_key_of, on_object}
 use Rattle.row_machine.specs.machine.Plans.{snapshot_target}
 use Rattle.row_machine.specs.machine.Tasks.{deletion_task}
-use Rattle.row_machine.specs.machine.Work.{entered}
+use Rattle.row_machine.specs.machine.Operations.{entered}
 use Rattle.row_machine.specs.machine.Runs.{run}
 use Rattle.row_machine.specs.facts.Whole.{IsWhole}
 use Rattle.row_machine.specs.machine.Expansions.{expanded_of}
@@ -135,7 +135,7 @@ setting_of key value = (key, value) ∷ []
 abbrev pub over_limit : Rule → List ℕ → ℕ → ℕ → ℕ → Refusal
 over_limit why key used asked limit = record {
   rule = why;
-  kept = record nothing_told { asked = asked; key = key; limit = limit; project = lab; used = used };
+  details = record no_details { asked = asked; key = key; limit = limit; project = lab; used = used };
 }
 
 -- two instances may be there: one is made, one is claimed by an operation that waits
@@ -269,7 +269,7 @@ enlarged = put_profile default small (memory (codes "1GiB")) []
 -- while an operation claims a row with the profile, it is held; then it changes, and what it counts for with it
 pub record ProfilesAreHeld : Type 0 where
   pub held : last_refusal (small_is_held ++ enlarged)
-      ≡ Some (record { rule = rule.B6; kept = record nothing_told { name = small; number = 1 } })
+      ≡ Some (record { rule = rule.B6; details = record no_details { name = small; number = 1 } })
   pub free : last_answer (small_is_held ++ work_twice 1 ++ enlarged) ≡ Some (answer.Reply reply.Empty)
   pub used : option_map (λ usage. usage.memory) (usage_after (small_is_held ++ work_twice 1 ++ enlarged) default)
       ≡ Some 1073741824
@@ -303,7 +303,7 @@ delete_instance project name = ask project (what.Delete (named kind.Instance nam
 -- an ephemeral instance that stops goes with its snapshots; while it runs it is not deleted
 pub record EphemeralGoes : Type 0 where
   pub running : last_refusal (running_e ++ delete_instance default e)
-      ≡ Some (record { rule = rule.B2; kept = record nothing_told { key = codes "Running"; name = e } })
+      ≡ Some (record { rule = rule.B2; details = record no_details { key = codes "Running"; name = e } })
   pub instances : option_map (λ state. state.instances) (state_after stopped_e) ≡ Some []
   pub snapshots : option_map (λ state. state.snapshots) (state_after stopped_e) ≡ Some []
   pub used : usage_after stopped_e default ≡ Some nothing
@@ -428,7 +428,7 @@ pub record CancelUndoes : Type 0 where
   pub undone : status_after (crossing ++ done 1 ++ done 1) 1 ≡ Some status.Cancelled
   pub no_row : option_map (λ state. state.instances) (state_after (crossing ++ done 1 ++ done 1)) ≡ Some []
   pub ended : last_refusal (crossing ++ done 1 ++ done 1 ++ cancel 1)
-      ≡ Some (record { rule = rule.O1; kept = record nothing_told { key = codes "Cancelled"; number = 1 } })
+      ≡ Some (record { rule = rule.O1; details = record no_details { key = codes "Cancelled"; number = 1 } })
 
 -- ---- a deletion whose target is a snapshot
 

@@ -11,7 +11,7 @@ use Rattle.row_machine.specs.machine.Task.{Task}
 use Rattle.row_machine.specs.machine.State.{State}
 use Rattle.row_machine.specs.machine.Accept.{After}
 use Rattle.row_machine.specs.machine.Tasks.{deletion_task}
-use Rattle.row_machine.specs.machine.Work.{entered}
+use Rattle.row_machine.specs.machine.Operations.{entered}
 use Rattle.row_machine.specs.shown.Notices.{success_notices}
 use Rattle.row_machine.specs.machine.Step.{Outcome, step}
 use Rattle.row_machine.specs.machine.Runs.{Ran, run}

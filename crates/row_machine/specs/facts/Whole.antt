@@ -18,23 +18,23 @@ use Rattle.reservations.specs.declared.books.Hold.{Hold}
 use Rattle.row_machine.specs.machine.State.{State}
 use Rattle.row_machine.specs.machine.Rows.{default_name, project_named, profile_named, pool_named, instance_named}
 use Rattle.row_machine.specs.machine.Rows.{texts_before, project_names, profile_names, network_names, pool_names}
-use Rattle.row_machine.specs.machine.Rows.{volume_names, instance_names, snapshot_names, standing_names}
+use Rattle.row_machine.specs.machine.Rows.{volume_names, instance_names, snapshot_names, power_names}
 use Rattle.row_machine.specs.machine.Homes.{is_on}
 use Rattle.row_machine.specs.machine.Expansions.{expanded_of}
 use Rattle.row_machine.specs.machine.Claims.{of_live, claimed_instance, claimed_volume, claimed_snapshot}
 use Rattle.row_machine.specs.machine.Claims.{judged_instances, judged_volumes, share_of, project_of_row}
 use Rattle.row_machine.specs.machine.Claims.{replaced_instance}
 use Rattle.row_machine.specs.machine.Usage.{used, networks_of}
-use Rattle.row_machine.specs.shown.Links.{target_of}
+use Rattle.row_machine.specs.shown.Urls.{target_of}
 use Rattle.row_machine.specs.machine.Holders.{keeps_busy}
 use Rattle.row_machine.specs.machine.NameRules.{is_there}
 use Rattle.row_machine.specs.machine.SettingRules.{root_missing, profile_missing, devices_miss}
 use Rattle.row_machine.specs.machine.PolicyRules.{forbids_profile, forbids_instance}
-use Rattle.row_machine.specs.machine.LimitRules.{instance_uncounted, volume_uncounts}
+use Rattle.row_machine.specs.machine.LimitRules.{instance_without_amount, volume_lacks_amount}
 use Rattle.row_machine.specs.machine.TableRules.{count_of, row_kinds, size_of, largest_row}
 use Rattle.row_machine.specs.machine.Kinds.{cap_of}
 use Rattle.row_machine.specs.opening.Records.{rows_of}
-use Rattle.row_machine.specs.machine.Work.{project_of_task}
+use Rattle.row_machine.specs.machine.Operations.{project_of_task}
 use Rattle.row_machine.specs.shown.Notices.{kept_notices}
 use Rattle.row_machine.specs.opening.Opening.{has_all_features, settings_invalid, devices_invalid, home_missing}
 
@@ -67,7 +67,7 @@ pub record AreNamed (state : State) : Type 0 where
   pub volumes : Rise volume_names state.volumes
   pub instances : Rise instance_names state.instances
   pub snapshots : Rise snapshot_names state.snapshots
-  pub powers : map standing_names state.powers ≡ map instance_names state.instances
+  pub powers : map power_names state.powers ≡ map instance_names state.instances
   pub new_volumes : Distinct volume_names (state.volumes ++ of_live claimed_volume state)
   pub new_instances : Distinct instance_names (state.instances ++ of_live new_instance state)
   pub new_snapshots : Distinct snapshot_names (state.snapshots ++ of_live claimed_snapshot state)
@@ -75,7 +75,7 @@ pub record AreNamed (state : State) : Type 0 where
 -- ---- 2: what is named exists
 
 -- an instance's profiles, at most 64 and each once, and all that its devices name
-pub record IsLinked (state : State) (instance : Instance) : Type 0 where
+pub record HasReferences (state : State) (instance : Instance) : Type 0 where
   pub few : are_profiles instance.profiles ≡ true
   pub profiles : profile_missing state instance ≡ None
   pub devices : devices_miss state instance.project (expanded_of state.projects state.profiles instance).devices ≡ None
@@ -119,7 +119,7 @@ pub record ReferencesExist (state : State) : Type 0 where
   pub snapshot_profiles : Each (λ snapshot. are_profiles snapshot.profiles ≡ true)
       (state.snapshots ++ of_live claimed_snapshot state)
   pub profiles : Each (λ profile. devices_miss state profile.project profile.devices ≡ None) state.profiles
-  pub instances : Each (IsLinked state) (judged_instances state)
+  pub instances : Each (HasReferences state) (judged_instances state)
   pub operations : Each (λ operation. IsPlaced state operation.work) state.operations.live
 
 -- ---- 3: defaults
@@ -194,9 +194,10 @@ pub record IsWithin (state : State) (project : Project) : Type 0 where
   pub parts : (part : Part)
       → IfSome (limit_on part (limits_of project.config)) (λ limit. used state project.name part ≤ limit)
   pub networks : IfSome (limits_of project.config).networks (λ limit. networks_of state project.name ≤ limit)
-  pub instances : Each (λ instance. instance.project ≡ project.name → instance_uncounted state project instance ≡ None)
+  pub instances : Each
+      (λ instance. instance.project ≡ project.name → instance_without_amount state project instance ≡ None)
       (judged_instances state)
-  pub volumes : Each (λ volume. volume.project ≡ project.name → volume_uncounts project volume ≡ None)
+  pub volumes : Each (λ volume. volume.project ≡ project.name → volume_lacks_amount project volume ≡ None)
       (judged_volumes state)
 
 -- a restricted project forbids nothing that its profiles and instances have
@@ -247,7 +248,7 @@ pub record AreFew (state : State) : Type 0 where
 -- its policy; the books balance; and nothing is too large.
 pub record IsWhole (state : State) : Type 0 where
   pub names : AreNamed state
-  pub links : ReferencesExist state
+  pub references : ReferencesExist state
   pub defaults : HasDefaults state
   pub settings : AreSettled state
   pub operations : AreOperations state

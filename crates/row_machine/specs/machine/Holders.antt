@@ -7,7 +7,7 @@ use Rattle.row_machine.specs.Words.{names_pool, names_volume, Row, Target, Objec
 use Rattle.row_machine.specs.Words.{Profile, Volume, Instance}
 use Rattle.row_machine.specs.Estate.{Task, State, home_of, expanded_of, is_of_kind}
 use Rattle.row_machine.specs.machine.Claims.{claimed_instance, claimed_volume, replaced_instance, project_of_row}
-use Rattle.row_machine.specs.shown.Links.{link_of, target_of}
+use Rattle.row_machine.specs.shown.Urls.{url_of, target_of}
 
 -- an operation's target or source is this instance, or a snapshot of it
 abbrev pub is_about : List ℕ → Target → Bool
@@ -76,21 +76,21 @@ claim_uses state home of task =
     || option_map_or (volume_uses of) (claimed_volume task) false
     || option_map_or (source_uses home of task.project) task.source false
 
-abbrev pub user_link : Bool → Row → Option (List ℕ)
-user_link uses row = if uses then Some (link_of (project_of_row row) (target_of row)) else None
+abbrev pub user_url : Bool → Row → Option (List ℕ)
+user_url uses row = if uses then Some (url_of (project_of_row row) (target_of row)) else None
 
-abbrev pub work_link : Task → List ℕ
-work_link task = link_of task.project task.target
+abbrev pub task_url : Task → List ℕ
+task_url task = url_of task.project task.target
 
 -- the first user within a project: its profiles, instances, volumes, and then the claims of its live operations
 abbrev pub user_in : State → List ℕ → Target → List ℕ → Option (List ℕ)
 user_in state home of project =
     first
-    (first_of (λ profile. user_link (profile_uses state home of profile) (row.Profile profile))
+    (first_of (λ profile. user_url (profile_uses state home of profile) (row.Profile profile))
     (filter (λ profile. bytes_eq profile.project project) state.profiles)
-    ∷ first_of (λ instance. user_link (instance_uses state home of instance) (row.Instance instance))
+    ∷ first_of (λ instance. user_url (instance_uses state home of instance) (row.Instance instance))
     (filter (λ instance. bytes_eq instance.project project) state.instances)
-    ∷ first_of (λ volume. user_link (volume_uses of volume) (row.Volume volume))
+    ∷ first_of (λ volume. user_url (volume_uses of volume) (row.Volume volume))
     (filter (λ volume. bytes_eq volume.project project) state.volumes)
     ∷ first_of (λ operation. work_user operation.work) state.operations.live
     ∷ []) where
@@ -98,13 +98,13 @@ user_in state home of project =
       claims_in task = option_map_or (λ new. bytes_eq (project_of_row new) project) task.claim false
 
       work_user : Task → Option (List ℕ)
-      work_user task = if claims_in task && claim_uses state home of task then Some (work_link task) else None
+      work_user task = if claims_in task && claim_uses state home of task then Some (task_url task) else None
 
 abbrev pub profile_user : State → List ℕ → List ℕ → Option (List ℕ)
 profile_user state home profile =
-    first_of (λ instance. user_link (names_profile state home profile instance) (row.Instance instance)) state.instances
+    first_of (λ instance. user_url (names_profile state home profile instance) (row.Instance instance)) state.instances
 
--- The link of the first user of a profile, network, pool or volume of this home. Other kinds have no users.
+-- The URL of the first user of a profile, network, pool or volume of this home. Other kinds have no users.
 unfoldable pub first_user_of : State → List ℕ → Target → Option (List ℕ)
 first_user_of state home of = user of.kind where
   user : ObjectKind → Option (List ℕ)

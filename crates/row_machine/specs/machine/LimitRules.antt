@@ -3,9 +3,9 @@ use Rattle.std.specs.Prelude.{◌∷◌}
 use Rattle.row_machine.specs.Words.{Expanded, ℕ, List, [], filter, Option, codes, option_map, option_to_list, bytes_eq}
 use Rattle.row_machine.specs.Words.{first, first_of, amount_above, Part, LimitKey, Instances, Containers, Machines, Cpu}
 use Rattle.row_machine.specs.Words.{Memory, Processes, Disk, Networks, Over, SumKey, exceeded, limit_on, parts}
-use Rattle.row_machine.specs.Words.{first_uncounted, volume_uncounted, limits_of, Rule, Refusal, Rule as rule}
+use Rattle.row_machine.specs.Words.{first_without_amount, volume_without_amount, limits_of, Rule, Refusal, Rule as rule}
 use Rattle.row_machine.specs.Words.{SumKey as sum, key_of_part, Project, Volume, Instance}
-use Rattle.row_machine.specs.Estate.{Task, State, expanded_of, nothing_told, on_key_of}
+use Rattle.row_machine.specs.Estate.{Task, State, expanded_of, no_details, on_key_of}
 use Rattle.row_machine.specs.Readings.{claimed_instance, claimed_volume, used, networks_of}
 
 -- the rule by which a limit refuses, and its key
@@ -36,44 +36,44 @@ sum_text sum.Memory = limit_text Memory
 sum_text sum.Processes = limit_text Processes
 sum_text sum.Disk = limit_text Disk
 
-abbrev pub object_uncounted : Project → List ℕ → Option SumKey → Option Refusal
-object_uncounted project name key = option_map (λ sum. on_key_of rule.L0 (sum_text sum) name project.name) key
+abbrev pub object_without_amount : Project → List ℕ → Option SumKey → Option Refusal
+object_without_amount project name key = option_map (λ sum. on_key_of rule.L0 (sum_text sum) name project.name) key
 
-unfoldable pub instance_uncounted : State → Project → Instance → Option Refusal
-instance_uncounted state project instance =
-    object_uncounted project instance.name
-    (first_uncounted (limits_of project.config) instance.kind expanded.config expanded.devices) where
+unfoldable pub instance_without_amount : State → Project → Instance → Option Refusal
+instance_without_amount state project instance =
+    object_without_amount project instance.name
+    (first_without_amount (limits_of project.config) instance.kind expanded.config expanded.devices) where
       expanded : Expanded
       expanded = expanded_of state.projects state.profiles instance
 
-unfoldable pub volume_uncounts : Project → Volume → Option Refusal
-volume_uncounts project volume =
-    object_uncounted project volume.name (volume_uncounted (limits_of project.config) volume.config)
+unfoldable pub volume_lacks_amount : Project → Volume → Option Refusal
+volume_lacks_amount project volume =
+    object_without_amount project volume.name (volume_without_amount (limits_of project.config) volume.config)
 
-abbrev pub claim_uncounted : State → Project → Task → Option Refusal
-claim_uncounted state project task = first
-    (first_of (instance_uncounted state project)
+abbrev pub claim_without_amount : State → Project → Task → Option Refusal
+claim_without_amount state project task = first
+    (first_of (instance_without_amount state project)
     (filter (λ instance. bytes_eq instance.project project.name) (option_to_list (claimed_instance task)))
-    ∷ first_of (volume_uncounts project)
+    ∷ first_of (volume_lacks_amount project)
     (filter (λ volume. bytes_eq volume.project project.name) (option_to_list (claimed_volume task)))
     ∷ [])
 
-abbrev pub project_uncounted : State → Project → Option Refusal
-project_uncounted state project = first
-    (first_of (instance_uncounted state project)
+abbrev pub project_without_amount : State → Project → Option Refusal
+project_without_amount state project = first
+    (first_of (instance_without_amount state project)
     (filter (λ instance. bytes_eq instance.project project.name) state.instances)
-    ∷ first_of (volume_uncounts project) (filter (λ volume. bytes_eq volume.project project.name) state.volumes)
-    ∷ first_of (λ operation. claim_uncounted state project operation.work) state.operations.live
+    ∷ first_of (volume_lacks_amount project) (filter (λ volume. bytes_eq volume.project project.name) state.volumes)
+    ∷ first_of (λ operation. claim_without_amount state project operation.work) state.operations.live
     ∷ [])
 
 -- L0: a setting gives no number for a limited sum, at the first project and there its first object.
 unfoldable pub counts_broken : State → Option Refusal
-counts_broken state = first_of (project_uncounted state) state.projects
+counts_broken state = first_of (project_without_amount state) state.projects
 
 abbrev pub over_refusal : Project → Over → Refusal
 over_refusal project over = record {
   rule = limit_rule over.key;
-  kept = record nothing_told {
+  details = record no_details {
     asked = over.asked;
     key = limit_text over.key;
     limit = over.limit;

@@ -2,7 +2,7 @@
 use Rattle.std.specs.Prelude.{◌&&◌, ◌∷◌}
 use Rattle.row_machine.specs.Words.{ℕ, Bool, true, false, List, [], Option, find, codes, slice_cmp, nat_cmp, is_lt}
 use Rattle.row_machine.specs.Words.{bytes_eq, replaced, Project, Profile, Network, Pool, Volume, Instance, Snapshot}
-use Rattle.row_machine.specs.machine.State.{Standing}
+use Rattle.row_machine.specs.machine.State.{InstancePower}
 
 -- the project and the profile that every server has
 abbrev pub default_name : List ℕ
@@ -31,8 +31,8 @@ instance_names instance = instance.project ∷ instance.name ∷ []
 abbrev pub snapshot_names : Snapshot → List (List ℕ)
 snapshot_names snapshot = snapshot.project ∷ snapshot.instance ∷ snapshot.name ∷ []
 
-abbrev pub standing_names : Standing → List (List ℕ)
-standing_names standing = standing.project ∷ standing.name ∷ []
+abbrev pub power_names : InstancePower → List (List ℕ)
+power_names instance_power = instance_power.project ∷ instance_power.name ∷ []
 
 -- whether these are the same names, one by one
 abbrev pub same_names : List (List ℕ) → List (List ℕ) → Bool
@@ -73,8 +73,8 @@ is_instance project name instance = same_names (instance_names instance) (projec
 abbrev pub is_snapshot : List ℕ → List ℕ → List ℕ → Snapshot → Bool
 is_snapshot project instance name snapshot = same_names (snapshot_names snapshot) (project ∷ instance ∷ name ∷ [])
 
-abbrev pub is_standing : List ℕ → List ℕ → Standing → Bool
-is_standing project name standing = same_names (standing_names standing) (project ∷ name ∷ [])
+abbrev pub is_power_of : List ℕ → List ℕ → InstancePower → Bool
+is_power_of project name instance_power = same_names (power_names instance_power) (project ∷ name ∷ [])
 
 abbrev pub project_named : List Project → List ℕ → Option Project
 project_named rows name = find (is_project name) rows
@@ -124,5 +124,5 @@ with_instance instance rows = put_by instance_names instance rows
 abbrev pub with_snapshot : Snapshot → List Snapshot → List Snapshot
 with_snapshot snapshot rows = put_by snapshot_names snapshot rows
 
-abbrev pub with_standing : Standing → List Standing → List Standing
-with_standing standing rows = put_by standing_names standing rows
+abbrev pub with_instance_power : InstancePower → List InstancePower → List InstancePower
+with_instance_power instance_power rows = put_by power_names instance_power rows

@@ -9,7 +9,7 @@ use Rattle.row_machine.specs.Words.{devices_fault, Refusal, Row, ObjectKind as k
 use Rattle.row_machine.specs.Words.{Row as row, Root as root, SettingFault as fault, DeviceFault as device, Project}
 use Rattle.row_machine.specs.Words.{Profile, Instance}
 use Rattle.row_machine.specs.Estate.{State, default_name, profile_named, network_named, pool_named, volume_named}
-use Rattle.row_machine.specs.Estate.{home_of, expanded_of, nothing_told, on_name, on_object}
+use Rattle.row_machine.specs.Estate.{home_of, expanded_of, no_details, on_name, on_object}
 use Rattle.row_machine.specs.Readings.{judged_instances, names_profile}
 
 abbrev pub text_at : List (List ℕ) → ℕ → List ℕ
@@ -36,14 +36,14 @@ faulty_key settings other = []
 -- V1: no such key. V2: no such value of the key. V3: a device that the tables refuse.
 abbrev pub setting_refusal : Settings → NamedDevices → SettingFault → Refusal
 setting_refusal config devices (fault.Unknown place) =
-    record { rule = rule.V1; kept = record nothing_told { key = text_at (keys_of config) place } }
+    record { rule = rule.V1; details = record no_details { key = text_at (keys_of config) place } }
 setting_refusal config devices (fault.Bad place why) = record {
   rule = rule.V2;
-  kept = record nothing_told { key = text_at (keys_of config) place; number = fault_number why };
+  details = record no_details { key = text_at (keys_of config) place; number = fault_number why };
 }
 setting_refusal config devices (fault.Device place why) = record {
   rule = rule.V3;
-  kept = record nothing_told {
+  details = record no_details {
     key = faulty_key (device_at devices place) why;
     name = text_at (keys_of devices) place;
     number = device_fault_number why;

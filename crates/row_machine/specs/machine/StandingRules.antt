@@ -5,15 +5,15 @@ use Rattle.row_machine.specs.Words.{find, option_map, list_any, option_map_or, r
 use Rattle.row_machine.specs.Words.{Stopped, Frozen, Error, Deed, ObjectKind, Settings, setting, is_allowed, Refusal}
 use Rattle.row_machine.specs.Words.{Target, Command, What, Deed as deed, ObjectKind as kind, Rule as rule, What as what}
 use Rattle.row_machine.specs.Words.{Project}
-use Rattle.row_machine.specs.Estate.{State, default_name, project_named, instance_named, is_standing, home_of, is_on}
-use Rattle.row_machine.specs.Estate.{expanded_of, kind_text, nothing_told, on_name, on_object, is_of_kind}
+use Rattle.row_machine.specs.Estate.{State, default_name, project_named, instance_named, is_power_of, home_of, is_on}
+use Rattle.row_machine.specs.Estate.{expanded_of, kind_text, no_details, on_name, on_object, is_of_kind}
 use Rattle.row_machine.specs.Readings.{power_line, busy_with, holder_of, first_user_of, instance_changed, renames_or_deletes}
 use Rattle.row_machine.specs.machine.NewRows.{put_project, patched_project}
 
 abbrev pub named_instance_busy : State → List ℕ → List ℕ → Option Refusal
 named_instance_busy state project name =
     option_map
-    (λ operation. record { rule = rule.B1; kept = record nothing_told { name = name; number = operation.number } })
+    (λ operation. record { rule = rule.B1; details = record no_details { name = name; number = operation.number } })
     (busy_with state project name)
 
 -- B1: the instance that a command would change or copy from is busy.
@@ -25,7 +25,8 @@ abbrev pub power_text : Power → List ℕ
 power_text power = (power_line power).text
 
 abbrev pub power_of : State → List ℕ → List ℕ → Option Power
-power_of state project name = option_map (λ standing. standing.power) (find (is_standing project name) state.powers)
+power_of state project name =
+    option_map (λ instance_power. instance_power.power) (find (is_power_of project name) state.powers)
 
 abbrev pub on_instance : Deed → Target → Option (Deed × List ℕ)
 on_instance does of = if is_of_kind kind.Instance of then Some (does, of.name) else None
@@ -42,7 +43,7 @@ deed_asked other = None
 abbrev pub in_wrong_state : Deed → List ℕ → Power → Option Refusal
 in_wrong_state does name power =
     if is_allowed does power then None
-    else Some (record { rule = rule.B2; kept = record nothing_told { key = power_text power; name = name } })
+    else Some (record { rule = rule.B2; details = record no_details { key = power_text power; name = name } })
 
 -- B2: the status of the instance does not allow what a command asks for.
 unfoldable pub wrong_state : State → Command → Option Refusal
@@ -118,8 +119,11 @@ abbrev pub used_by_first : State → Command → Target → Option Refusal
 used_by_first state command of =
     option_map used_by (first_user_of state (home_of state.projects command.project of.kind) of) where
       used_by : List ℕ → Refusal
-      used_by link =
-          record { rule = rule.B4; kept = record nothing_told { key = link; kind = kind_text of.kind; name = of.name } }
+      used_by url =
+          record {
+            rule = rule.B4;
+            details = record no_details { key = url; kind = kind_text of.kind; name = of.name };
+          }
 
 -- B4: the object that a command renames or deletes has a user.
 unfoldable pub object_used : State → Command → Option Refusal
@@ -151,7 +155,7 @@ abbrev pub held_profile : State → Command → Target → Option Refusal
 held_profile state command of =
     if is_of_kind kind.Profile of
     then option_map
-    (λ operation. record { rule = rule.B6; kept = record nothing_told { name = of.name; number = operation.number } })
+    (λ operation. record { rule = rule.B6; details = record no_details { name = of.name; number = operation.number } })
     (holder_of state (home_of state.projects command.project kind.Profile) of.name)
     else None
 

@@ -1,7 +1,7 @@
 -- The state of the server: plain lists.
 use Rattle.std.specs.Prelude.{ℕ, List, [], Bool, false}
 use Rattle.row_machine.specs.Words.{Power, no_operations, Books, no_books, Notice}
-use Rattle.operations.specs.Kept.{Kept}
+use Rattle.operations.specs.OperationTable.{OperationTable}
 use Rattle.reservations.specs.declared.books.Hold.{Hold}
 use Rattle.records.specs.declared.rows.Project.{Project}
 use Rattle.records.specs.declared.rows.Profile.{Profile}
@@ -13,7 +13,7 @@ use Rattle.records.specs.declared.rows.Snapshot.{Snapshot}
 use Rattle.row_machine.specs.machine.Task.{Task}
 
 -- the status of the instance of this project and name
-pub record Standing : Type 0 where
+pub record InstancePower : Type 0 where
   pub project : List ℕ
   pub name : List ℕ
   pub power : Power
@@ -30,8 +30,8 @@ pub record State : Type 0 where
   pub volumes : List Volume
   pub instances : List Instance
   pub snapshots : List Snapshot
-  pub powers : List Standing
-  pub operations : Kept Task
+  pub powers : List InstancePower
+  pub operations : OperationTable Task
   pub held : List Hold
   pub books : Books
   pub notices : List Notice

@@ -5,7 +5,7 @@ use Rattle.row_machine.specs.Words.{option_map, result_err, first, first_of, Obj
 use Rattle.row_machine.specs.Words.{Success, Failure, Cancelled, CancelFault, EnterFault, Full, Spent, kept_at}
 use Rattle.row_machine.specs.Words.{enter_fault, cancel_answer, most_live, number_limit, Refusal, Row, What, body_of}
 use Rattle.row_machine.specs.Words.{ObjectKind as kind, Rule as rule, What as what, CancelFault as cancel_fault}
-use Rattle.row_machine.specs.Estate.{State, kind_text, cap_of, nothing_told, on_number}
+use Rattle.row_machine.specs.Estate.{State, kind_text, cap_of, no_details, on_number}
 use Rattle.row_machine.specs.Readings.{status_line, of_live, claimed_instance, claimed_volume, claimed_snapshot}
 use Rattle.row_machine.specs.Readings.{target_of}
 
@@ -16,7 +16,7 @@ status_text status = (status_line status).text
 abbrev pub cancel_refusal : ℕ → CancelFault → Option Refusal
 cancel_refusal number cancel_fault.Unknown = None
 cancel_refusal number (cancel_fault.Ended status) =
-    Some (record { rule = rule.O1; kept = record nothing_told { key = status_text status; number = number } })
+    Some (record { rule = rule.O1; details = record no_details { key = status_text status; number = number } })
 cancel_refusal number cancel_fault.Fixed = Some (on_number rule.O2 number)
 cancel_refusal number cancel_fault.Already = Some (on_number rule.O3 number)
 
@@ -52,7 +52,7 @@ row_kinds = kind.Project ∷ kind.Profile ∷ kind.Network ∷ kind.Pool ∷ kin
 abbrev pub too_many : State → ObjectKind → Option Refusal
 too_many state kind =
     if nat_lt (cap_of kind) (count_of state kind)
-    then Some (record { rule = rule.C1; kept = record nothing_told { kind = kind_text kind; number = cap_of kind } })
+    then Some (record { rule = rule.C1; details = record no_details { kind = kind_text kind; number = cap_of kind } })
     else None
 
 abbrev pub size_of : Row → ℕ
@@ -67,8 +67,8 @@ too_large row =
     if nat_lt largest_row (size_of row)
     then Some (record {
       rule = rule.C2;
-      kept =
-          record nothing_told { kind = kind_text (target_of row).kind; number = min (size_of row) (2 ^ 64 - 1) };
+      details =
+          record no_details { kind = kind_text (target_of row).kind; number = min (size_of row) (2 ^ 64 - 1) };
     })
     else None
 

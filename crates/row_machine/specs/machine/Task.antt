@@ -1,4 +1,4 @@
--- What a background operation does and holds: what contracts see of a `Work`.
+-- What a background operation does and holds: what contracts see of it.
 use Rattle.row_machine.specs.Words.{ℕ, List, Option, Deed, HostCall, Row, Target}
 
 -- The deed; the project and the object that it is about; the claimed row, which its success puts, and the project and

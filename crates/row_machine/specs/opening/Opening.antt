@@ -18,13 +18,14 @@ use Rattle.row_machine.specs.machine.Rows.{default_name, project_named, profile_
 use Rattle.row_machine.specs.machine.Homes.{home_of, is_on}
 use Rattle.row_machine.specs.machine.Changes.{with_row}
 use Rattle.row_machine.specs.machine.Claims.{project_of_row}
-use Rattle.row_machine.specs.shown.Links.{target_of}
+use Rattle.row_machine.specs.shown.Urls.{target_of}
 use Rattle.row_machine.specs.machine.NewRows.{default_profile}
 use Rattle.row_machine.specs.machine.StandingRules.{feature_keys}
 use Rattle.row_machine.specs.machine.SettingRules.{tables_break, scope_of, root_missing, profile_missing, devices_miss}
 use Rattle.row_machine.specs.machine.Expansions.{expanded_of}
 use Rattle.row_machine.specs.machine.PolicyRules.{forbids_profile, forbids_instance}
-use Rattle.row_machine.specs.machine.LimitRules.{instance_uncounted, volume_uncounts, part_exceeds, networks_exceed}
+use Rattle.row_machine.specs.machine.LimitRules.{instance_without_amount, volume_lacks_amount, part_exceeds}
+use Rattle.row_machine.specs.machine.LimitRules.{networks_exceed}
 use Rattle.row_machine.specs.machine.TableRules.{row_kinds, too_large}
 use Rattle.row_machine.specs.machine.Kinds.{kind_number, cap_of}
 
@@ -161,13 +162,14 @@ forbidden number state (row.Instance instance) =
 forbidden number state other = None
 
 -- an instance or a volume is not countable for the limits of its project
-abbrev pub uncountable : State → Row → Option Rule
-uncountable state (row.Volume volume) =
-    rule_of (option_and_then (λ project. volume_uncounts project volume) (project_named state.projects volume.project))
-uncountable state (row.Instance instance) =
-    rule_of (option_and_then (λ project. instance_uncounted state project instance)
+abbrev pub row_lacks_amount : State → Row → Option Rule
+row_lacks_amount state (row.Volume volume) =
+    rule_of
+    (option_and_then (λ project. volume_lacks_amount project volume) (project_named state.projects volume.project))
+row_lacks_amount state (row.Instance instance) =
+    rule_of (option_and_then (λ project. instance_without_amount state project instance)
     (project_named state.projects instance.project))
-uncountable state other = None
+row_lacks_amount state other = None
 
 -- the rules in their order
 abbrev pub row_rules : List (State → Row → Option Rule)
@@ -187,7 +189,7 @@ row_rules =
     ∷ forbidden 5
     ∷ forbidden 6
     ∷ forbidden 7
-    ∷ uncountable
+    ∷ row_lacks_amount
     ∷ []
 
 -- ---- the first rule that the rows break, with the row

@@ -3,22 +3,22 @@ use Rattle.std.specs.Prelude.{ℕ, ◌+◌, ◌-◌, ◌^◌, ◌==◌, Bool, tr
 use Rattle.std.specs.Prelude.{Option, Some, None, if◌then◌else◌, option_map}
 use Rattle.std.specs.Option.{option_map_or, option_to_list}
 use Rattle.std.specs.Str.{bytes_eq}
-use Rattle.row_machine.specs.Words.{ring_push, Action, Deed, ObjectKind, kept_at, Notice, Filter, Life, Told, Untold}
-use Rattle.row_machine.specs.Words.{OpView, Target, Command, What}
+use Rattle.row_machine.specs.Words.{ring_push, Action, Deed, ObjectKind, kept_at, Notice, Filter, Life, EventBody}
+use Rattle.row_machine.specs.Words.{Untold, OpView, Target, Command, What}
 use Rattle.row_machine.specs.Words.action
 use Rattle.row_machine.specs.Words.deed
 use Rattle.row_machine.specs.Words.kind
 use Rattle.row_machine.specs.Words.life
 use Rattle.row_machine.specs.Words.what
 use Rattle.operations.specs.declared.operation.Operation.{Operation}
-use Rattle.records.specs.declared.notices.Told.TheVariants as told
+use Rattle.records.specs.declared.notices.EventBody.TheVariants as event_body
 use Rattle.row_machine.specs.declared.events.Fetched.{Fetched}
 use Rattle.row_machine.specs.declared.events.Fetched.TheVariants.{Notices, Lagged}
 use Rattle.row_machine.specs.machine.Task.{Task}
 use Rattle.row_machine.specs.machine.State.{State}
 use Rattle.row_machine.specs.machine.Rows.{default_name}
 use Rattle.row_machine.specs.machine.Homes.{home_of}
-use Rattle.row_machine.specs.shown.Links.{link_of, target_of}
+use Rattle.row_machine.specs.shown.Urls.{url_of, target_of}
 
 -- ---- keeping them
 
@@ -32,7 +32,7 @@ push_notice notice state =
     if state.next_notice == 2 ^ 64 - 1 then state
     else record state {
       notices = ring_push kept_notices
-          (record { number = state.next_notice; moment = notice.moment; project = notice.project; told = notice.told })
+          (record { number = state.next_notice; moment = notice.moment; project = notice.project; body = notice.body })
           state.notices;
       next_notice = state.next_notice + 1;
     }
@@ -55,7 +55,7 @@ abbrev pub life_notice : ℕ → List ℕ → Target → Life → Untold
 life_notice moment project of action = record {
   moment = moment;
   project = project_told project of.kind;
-  told = told.Life action (link_of project of);
+  body = event_body.Life action (url_of project of);
 }
 
 -- how an operation is shown
@@ -76,7 +76,8 @@ abbrev pub operation_notice : State → ℕ → ℕ → List Untold
 operation_notice state number moment =
     option_to_list
     (option_map
-    (λ operation. record { moment = moment; project = operation.work.project; told = told.Op (view_of operation) })
+    (λ operation.
+    record { moment = moment; project = operation.work.project; body = event_body.Op (view_of operation) })
     (kept_at state.operations number))
 
 -- ---- changes at once
@@ -174,13 +175,13 @@ success_notices task moment = map (life_notice moment task.project (object_told 
 -- ---- listening
 
 -- the type of a notice is one that the listener takes
-abbrev pub takes_told : Filter → Told → Bool
-takes_told filter (told.Life action source) = filter.life
-takes_told filter (told.Op view) = filter.op
+abbrev pub takes_event : Filter → EventBody → Bool
+takes_event filter (event_body.Life action source) = filter.life
+takes_event filter (event_body.Op view) = filter.op
 
 -- a listener takes notices of its own project, of the types that it wants
 abbrev pub takes : Filter → Notice → Bool
-takes filter notice = bytes_eq notice.project filter.project && takes_told filter notice.told
+takes filter notice = bytes_eq notice.project filter.project && takes_event filter notice.body
 
 -- the number of the oldest notice that is kept, or the next one where none is
 abbrev pub oldest_kept : State → ℕ

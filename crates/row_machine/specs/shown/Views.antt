@@ -1,4 +1,4 @@
--- What a read answers: the objects as they are shown, their links, and the links of their users.
+-- What a read answers: the objects as they are shown, their URLs, and the URLs of their users.
 use Rattle.std.specs.Prelude.{if◌then◌else◌, ℕ, ◌==◌, Bool, true, false, ◌&&◌, List, [], ◌∷◌, ◌++◌, map, filter, Option}
 use Rattle.std.specs.Prelude.{Some, None, unwrap_or, codes, option_map, option_and_then}
 use Rattle.std.specs.List.{filter_map}
@@ -23,7 +23,7 @@ use Rattle.row_machine.specs.machine.Homes.{home_of}
 use Rattle.row_machine.specs.machine.Expansions.{expanded_of}
 use Rattle.row_machine.specs.machine.Claims.{project_of_row}
 use Rattle.row_machine.specs.machine.Usage.{used, networks_of}
-use Rattle.row_machine.specs.shown.Links.{link_of, target_of, sorted}
+use Rattle.row_machine.specs.shown.Urls.{url_of, target_of, sorted}
 use Rattle.row_machine.specs.machine.Holders.{names_profile, profile_uses, instance_uses, volume_uses}
 use Rattle.row_machine.specs.machine.StandingRules.{power_of}
 use Rattle.row_machine.specs.machine.Asked.{snapshots_of}
@@ -32,13 +32,13 @@ use Rattle.row_machine.specs.machine.Plans.{row_of}
 
 -- ---- users
 
--- the link of a row
-abbrev pub row_link : Row → List ℕ
-row_link row = link_of (project_of_row row) (target_of row)
+-- the URL of a row
+abbrev pub row_url : Row → List ℕ
+row_url row = url_of (project_of_row row) (target_of row)
 
--- the links of rows
-abbrev pub links : List Row → List (List ℕ)
-links rows = map row_link rows
+-- the URLs of rows
+abbrev pub urls : List Row → List (List ℕ)
+urls rows = map row_url rows
 
 -- the instances, networks, volumes and profiles of a project
 abbrev pub rows_in : State → List ℕ → List Row
@@ -55,15 +55,15 @@ rows_using state home of =
     ++ map row.Profile (filter (profile_uses state home of) state.profiles)
     ++ map row.Volume (filter (volume_uses of) state.volumes)
 
--- The links of the users of a row, in byte order. Rows count, claims do not.
+-- The URLs of the users of a row, in byte order. Rows count, claims do not.
 unfoldable pub used_by : State → Row → List (List ℕ)
-used_by state (row.Project project) = sorted (links (rows_in state project.name))
+used_by state (row.Project project) = sorted (urls (rows_in state project.name))
 used_by state (row.Profile profile) =
-    sorted (links (map row.Instance (filter (names_profile state profile.project profile.name) state.instances)))
+    sorted (urls (map row.Instance (filter (names_profile state profile.project profile.name) state.instances)))
 used_by state (row.Network network) =
-    sorted (links (rows_using state network.project (target_of (row.Network network))))
-used_by state (row.Pool pool) = sorted (links (rows_using state [] (target_of (row.Pool pool))))
-used_by state (row.Volume volume) = sorted (links (rows_using state volume.project (target_of (row.Volume volume))))
+    sorted (urls (rows_using state network.project (target_of (row.Network network))))
+used_by state (row.Pool pool) = sorted (urls (rows_using state [] (target_of (row.Pool pool))))
+used_by state (row.Volume volume) = sorted (urls (rows_using state volume.project (target_of (row.Volume volume))))
 used_by state (row.Instance instance) = []
 used_by state (row.Snapshot snapshot) = []
 
@@ -170,9 +170,9 @@ abbrev pub operations_reply : State → List ℕ → Bool → Reply
 operations_reply state project false = reply.OpLinks (by_status (λ operation. operation.number) state project)
 operations_reply state project true = reply.OpMany (by_status view_of state project)
 
--- rows by their links or whole
+-- rows by their URLs or whole
 abbrev pub rows_reply : State → List Row → Bool → Reply
-rows_reply state rows false = reply.Links (links rows)
+rows_reply state rows false = reply.Links (urls rows)
 rows_reply state rows true = reply.Many (map (row_view state) rows)
 
 -- whether operations are meant

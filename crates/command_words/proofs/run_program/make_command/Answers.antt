@@ -6,4 +6,4 @@ use Rattle.command_words.proofs.run_program.make_command.Goals as goal
 pub returns : goal.returns
 returns c =
     let before = more _ _ _ _ (new_command (codes "make") _ c.new-command.ensures.app c.new-command.ensures.local) c.in_ok-command.ensures in
-    IfOk-weaker c.with_place-2.result _ _ (λ made adds. more _ _ _ made before adds) c.with_place-2.ensures
+    IfOk-weaker c.with_positional-2.result _ _ (λ made adds. more _ _ _ made before adds) c.with_positional-2.ensures

@@ -1,6 +1,6 @@
 use Rattle.std.proofs.Common.{◌∙◌, Some, IsSome, IfSome, set, ap, sym, subst}
 use Rattle.std.specs.List.{position}
-use Rattle.operations.specs.Kept.{has_number}
+use Rattle.operations.specs.OperationTable.{has_number}
 use Rattle.operations.specs.declared.operation.Operation.{Operation}
 use Rattle.plain_lists.proofs.Places.{find-at, changed-at}
 use Rattle.core_drafts.specs.Background.{handed, HasCount}

@@ -1,4 +1,4 @@
-use Rattle.core_reopening.proofs.Told.{begun-opens, kept-opens, records-open, turned-opens}
+use Rattle.core_reopening.proofs.Contents.{begun-opens, kept-opens, records-open, turned-opens}
 use Rattle.core_reopening.proofs.server.daemon_opens_again.Goals as goal
 
 pub returns-clause-records : goal.returns-clause-records

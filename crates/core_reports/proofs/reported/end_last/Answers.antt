@@ -2,10 +2,10 @@ use Rattle.std.proofs.Common.{IsSome, find, length, ap, sym, subst, ◌∙◌, a
 use Rattle.std.specs.Option.{option_map_or}
 use Rattle.host_model.specs.declared.report.Report.TheVariants as report
 use Rattle.operations.specs.declared.operation.Operation.{Operation}
-use Rattle.operations.specs.Kept.{live_at}
+use Rattle.operations.specs.OperationTable.{live_at}
 use Rattle.row_machine.specs.machine.Task.{Task}
 use Rattle.row_machine.specs.machine.State.{State}
-use Rattle.row_machine.specs.machine.Work.{is_held_by}
+use Rattle.row_machine.specs.machine.Operations.{is_held_by}
 use Rattle.core_reports.proofs.Completions.{unready-turned, uncarried-turned, succeeded-turned, roomy}
 use Rattle.core_reports.proofs.Failing.{live-holds}
 use Rattle.core_reports.proofs.Turning.{last-of, is-live, done-counted}

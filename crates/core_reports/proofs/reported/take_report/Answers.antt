@@ -1,7 +1,7 @@
 use Rattle.std.proofs.Common.{◌+◌, ◌<◌, IfSome, ◌∙◌, ap, sym, subst, refl}
 use Rattle.std.specs.Option.{option_map_or}
 use Rattle.operations.specs.declared.operation.Operation.{Operation}
-use Rattle.operations.specs.Kept.{live_at}
+use Rattle.operations.specs.OperationTable.{live_at}
 use Rattle.row_machine.specs.machine.Task.{Task}
 use Rattle.row_machine.specs.machine.State.{State}
 use Rattle.core_reports.specs.Turns.{turn_of}

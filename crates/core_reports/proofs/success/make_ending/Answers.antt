@@ -1,5 +1,5 @@
 use Rattle.std.proofs.Common.{◌∙◌, ap, sym}
-use Rattle.operations.specs.Kept.{live_at}
+use Rattle.operations.specs.OperationTable.{live_at}
 use Rattle.machine_laws.proofs.Base.{live-number}
 use Rattle.core_reports.proofs.Successes.{success-entries}
 use Rattle.core_reports.proofs.success.make_ending.Goals as goal

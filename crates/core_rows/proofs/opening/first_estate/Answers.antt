@@ -18,7 +18,7 @@ pub of-requires-clause-whole : goal.of-requires-clause-whole
 of-requires-clause-whole c =
     subst IsWhole
     (sym
-    (c.settle.ensures.state
+    (c.keep_changes.ensures.state
     ∙ c.apply.ensures.state
     ∙ ap (λ s. applied s c.args.changes) (c.in_ok-reserve_for.ensures.state ∙ c.in_ok-draft.ensures.state)
     ∙ ap (applied empty_state) c.requires))
@@ -28,7 +28,7 @@ pub of-requires-clause-silent : goal.of-requires-clause-silent
 of-requires-clause-silent c =
     subst IsSilent
     (sym
-    (c.settle.ensures.state
+    (c.keep_changes.ensures.state
     ∙ c.apply.ensures.state
     ∙ ap (λ s. applied s c.args.changes) (c.in_ok-reserve_for.ensures.state ∙ c.in_ok-draft.ensures.state)
     ∙ ap (applied empty_state) c.requires))
@@ -38,9 +38,9 @@ pub of-requires-clause-above : goal.of-requires-clause-above
 of-requires-clause-above c =
     omega (
       arith,
-      ap (λ (b : Backing). b.greatest) (c.settle.ensures.backing ∙ c.apply.ensures.backing ∙ c.in_ok-reserve_for.ensures.backing),
+      ap (λ (b : Backing). b.greatest) (c.keep_changes.ensures.backing ∙ c.apply.ensures.backing ∙ c.in_ok-reserve_for.ensures.backing),
       c.in_ok-draft.ensures.greatest,
-      ap (λ (s : State). s.operations.next) (c.settle.ensures.state ∙ c.apply.ensures.state)
+      ap (λ (s : State). s.operations.next) (c.keep_changes.ensures.state ∙ c.apply.ensures.state)
           ∙ ap (λ k. k.next) (applied-operations c.args.changes c.reserve_for.new.self.state)
           ∙ ap (λ (s : State). s.operations.next) (c.in_ok-reserve_for.ensures.state ∙ c.in_ok-draft.ensures.state),
     )

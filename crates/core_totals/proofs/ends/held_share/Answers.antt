@@ -3,7 +3,7 @@ use Rattle.std.specs.Option.{option_copied, option_map_or}
 use Rattle.size_values.specs.Amounts.{nothing}
 use Rattle.reservations.specs.declared.books.Hold.{Hold}
 use Rattle.row_machine.specs.machine.State.{State}
-use Rattle.row_machine.specs.machine.Work.{is_held_by}
+use Rattle.row_machine.specs.machine.Operations.{is_held_by}
 use Rattle.core_totals.proofs.ends.held_share.Goals as goal
 
 pub returns-in-Some : goal.returns-in-Some

@@ -1,6 +1,6 @@
 use Rattle.std.proofs.Common.{◌∙◌, ap, sym, true, false}
 use Rattle.std.specs.Option.{is_some}
-use Rattle.operations.specs.Kept.{live_at}
+use Rattle.operations.specs.OperationTable.{live_at}
 use Rattle.row_machine.specs.machine.State.{State}
 use Rattle.core_turns.proofs.Workers.{look-comes}
 use Rattle.core_turns.proofs.asking.look.Goals as goal

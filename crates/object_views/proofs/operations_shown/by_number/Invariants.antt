@@ -1,5 +1,5 @@
 use Rattle.std.proofs.Common.{◌≡◌, ◌≤◌, length, drop}
-use Rattle.operations.specs.Kept.{by_number}
+use Rattle.operations.specs.OperationTable.{by_number}
 use Rattle.object_views.proofs.operations_shown.by_number.Given as goal
 
 abbrev pub invariant-loop-place : goal.invariant-loop-place

@@ -1,5 +1,5 @@
 use Rattle.std.proofs.Common.{IsSome, subst}
-use Rattle.operations.specs.Kept.{has_number}
+use Rattle.operations.specs.OperationTable.{has_number}
 use Rattle.std.proofs.lemmas.Bool.{false≢true}
 use Rattle.plain_lists.proofs.Places.{none-position}
 use Rattle.operations.proofs.lists.known_place.Goals as goal

@@ -1,7 +1,7 @@
 use Rattle.std.proofs.Common.{set, ◌∙◌, ap}
 use Rattle.std.specs.List.{position}
 use Rattle.operations.specs.declared.operation.Operation.{Operation}
-use Rattle.operations.specs.Kept.{has_number}
+use Rattle.operations.specs.OperationTable.{has_number}
 use Rattle.plain_lists.proofs.Places.{changed-at}
 use Rattle.operations.proofs.lists.set_status.Goals as goal
 

@@ -2,7 +2,7 @@ use Rattle.std.proofs.Common.{Some, set, sym, ◌∙◌, ap}
 use Rattle.std.specs.List.{position}
 use Rattle.std.specs.Option.{option_map}
 use Rattle.operations.specs.declared.operation.Operation.{Operation}
-use Rattle.operations.specs.Kept.{has_number}
+use Rattle.operations.specs.OperationTable.{has_number}
 use Rattle.plain_lists.proofs.Places.{find-at, changed-at}
 use Rattle.operations.proofs.lists.swap_in.Goals as goal
 

@@ -1,6 +1,6 @@
 use Rattle.std.proofs.Common.{Some, sym, ◌∙◌, ap}
 use Rattle.std.specs.List.{position}
-use Rattle.operations.specs.Kept.{has_number}
+use Rattle.operations.specs.OperationTable.{has_number}
 use Rattle.plain_lists.proofs.Places.{find-at, dropped-at}
 use Rattle.operations.proofs.lists.take_out.Goals as goal
 

@@ -1,4 +1,4 @@
-use Rattle.rest_routes.specs.Places.{routes}
+use Rattle.rest_routes.specs.Endpoints.{routes}
 use Rattle.rest_routes.proofs.Taken.{routes_are_taken}
 use Rattle.rest_routes.proofs.table.full_router.Goals as goal
 

@@ -1,4 +1,4 @@
-use Rattle.rest_routes.specs.Places.{line_with}
+use Rattle.rest_routes.specs.Endpoints.{line_with}
 use Rattle.rest_routes.proofs.Rows.{only_memory, taken_from}
 use Rattle.rest_routes.proofs.table.router_of.Goals as goal
 

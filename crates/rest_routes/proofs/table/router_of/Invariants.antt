@@ -1,5 +1,5 @@
 use Rattle.std.proofs.Common.{◌≡◌, true, [], map, drop}
-use Rattle.rest_routes.specs.Places.{are_taken, line_with, rows_after}
+use Rattle.rest_routes.specs.Endpoints.{are_taken, line_with, rows_after}
 use Rattle.rest_routes.proofs.table.router_of.Given as goal
 
 abbrev pub invariant-loop-route : goal.invariant-loop-route

@@ -2,7 +2,7 @@ use Rattle.std.proofs.Common.{sym, ap, ◌∙◌}
 use Rattle.std.specs.List.{find}
 use Rattle.std.specs.Option.{option_copied, option_or}
 use Rattle.std.proofs.lemmas.List.Folds.{find-append}
-use Rattle.operations.specs.Kept.{has_number}
+use Rattle.operations.specs.OperationTable.{has_number}
 use Rattle.row_machine.specs.machine.State.{State}
 use Rattle.row_readings.proofs.lookups.kept_at.Goals as goal
 

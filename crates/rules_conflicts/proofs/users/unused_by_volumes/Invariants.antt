@@ -1,8 +1,8 @@
 use Rattle.std.proofs.Common.{◌≡◌, None, take}
 use Rattle.plain_lists.specs.Firsts.{first_of}
-use Rattle.rules_conflicts.specs.Users.{volume_link}
+use Rattle.rules_conflicts.specs.Users.{volume_url}
 use Rattle.rules_conflicts.proofs.users.unused_by_volumes.Given as goal
 
 -- those before name it not
 abbrev pub invariant-loop-row : goal.invariant-loop-row
-invariant-loop-row l = first_of (volume_link l.of) (take l.row-index l.rows) ≡ None
+invariant-loop-row l = first_of (volume_url l.of) (take l.row-index l.rows) ≡ None

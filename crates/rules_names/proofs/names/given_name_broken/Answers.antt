@@ -10,5 +10,5 @@ returns-in-Create c =
     let s = c.args.view.now in
     let project = c.args.project.now in
     subst (λ asked. Says c.new_name_broken.result (option_and_then (name_broken s project) (new_name_of s project asked)))
-    (ap (λ of. what_of.Create of c.in-Create.body) c.place_of.ensures ∙ sym c.in-Create.is)
+    (ap (λ of. what_of.Create of c.in-Create.body) c.target_ref.ensures ∙ sym c.in-Create.is)
     (c.new_name_broken.ensures c.in-Create.body)

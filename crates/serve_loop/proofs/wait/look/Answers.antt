@@ -6,5 +6,5 @@ pub is_live-requires : goal.is_live-requires
 is_live-requires g c = for_looker _ _ c.turn-answer.ensures.may
 
 pub returns : goal.returns
-returns g c = λ command deadline rests clock. looks command deadline rests clock _ c.turn-answer.ensures.told
-    c.turn-answer.ensures.turned c.turn-answer.ensures.rested c.is_live.ensures
+returns g c = λ command deadline idles clock. looks command deadline idles clock _ c.turn-answer.ensures.contents
+    c.turn-answer.ensures.turned c.turn-answer.ensures.idled c.is_live.ensures

@@ -7,4 +7,4 @@ reply_of-requires g c = at_once _ _ _ _ c.turn-answer.ensures.may
 
 pub returns : goal.returns
 returns g c = λ command is. shows command is c.now-moment.ensures.reading c.now-moment.ensures.early
-    c.turn-answer.ensures.told c.turn-answer.ensures.turned c.turn-answer.ensures.rested c.reply_of.ensures
+    c.turn-answer.ensures.contents c.turn-answer.ensures.turned c.turn-answer.ensures.idled c.reply_of.ensures

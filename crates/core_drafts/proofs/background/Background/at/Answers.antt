@@ -1,6 +1,6 @@
 use Rattle.std.proofs.Common.{Some, sym, ◌∙◌, ap}
 use Rattle.std.specs.List.{position}
-use Rattle.operations.specs.Kept.{has_number, live_at}
+use Rattle.operations.specs.OperationTable.{has_number, live_at}
 use Rattle.plain_lists.proofs.Places.{find-at}
 use Rattle.core_drafts.specs.Background.{Background}
 use Rattle.core_drafts.proofs.background.Background.at.Goals as goal

@@ -2,7 +2,7 @@ use Rattle.std.proofs.Common.{◌∙◌, ap}
 use Rattle.core_drafts.specs.Background.{handed_at}
 use Rattle.core_drafts.specs.Drafted.{Drafted}
 use Rattle.core_drafts.specs.declared.calls.Handing.TheVariants as handing
-use Rattle.row_machine.specs.machine.Work.{with_task}
+use Rattle.row_machine.specs.machine.Operations.{with_task}
 use Rattle.core_drafts.proofs.Settled.{settled_is}
 use Rattle.core_drafts.proofs.draft.Draft.hand_out_undo.Goals as goal
 

@@ -2,7 +2,7 @@ use Rattle.std.proofs.Common.{◌∙◌, ap}
 use Rattle.core_drafts.specs.Background.{handed_at}
 use Rattle.core_drafts.specs.Drafted.{Listed}
 use Rattle.core_drafts.proofs.Backgrounds.{other-operations}
-use Rattle.row_machine.specs.machine.Work.{with_task}
+use Rattle.row_machine.specs.machine.Operations.{with_task}
 use Rattle.core_drafts.proofs.lists.Lists.hand_out.Goals as goal
 
 pub returns-clause-state : goal.returns-clause-state

@@ -1,8 +1,8 @@
 use Rattle.std.proofs.Common.{◌∙◌, ap, sym, subst, if◌then◌else◌}
 use Rattle.std.specs.List.{list_any}
 use Rattle.records.specs.declared.rows.Row.TheVariants as row
-use Rattle.row_machine.specs.machine.State.{Standing}
-use Rattle.row_machine.specs.machine.Rows.{is_standing, with_instance, with_standing}
+use Rattle.row_machine.specs.machine.State.{InstancePower}
+use Rattle.row_machine.specs.machine.Rows.{is_power_of, with_instance, with_instance_power}
 use Rattle.row_machine.specs.machine.Changes.{with_row}
 use Rattle.row_readings.specs.Rising.{AreRising}
 use Rattle.core_drafts.specs.Inside.{state_in}
@@ -19,7 +19,7 @@ returns-clause-state c =
     ap (λ is. record s { instances = is; powers = c.put_new-power.new.rows.items }) c.put-row.ensures.rows
     ∙ ap (λ ps. record s { instances = with_instance c.args.row s.instances; powers = ps })
     (c.put_new-power.ensures.rows
-    ∙ ap (λ (p : Standing). if list_any (is_standing p.project p.name) s.powers then s.powers else with_standing p s.powers) c.requires.power)
+    ∙ ap (λ (p : InstancePower). if list_any (is_power_of p.project p.name) s.powers then s.powers else with_instance_power p s.powers) c.requires.power)
     ∙ ap (λ (x : Listed). with_row (row.Instance c.args.row) x.state) c.self.view_is
 
 pub returns-clause-room : goal.returns-clause-room

@@ -3,7 +3,7 @@ use Rattle.size_values.specs.Causes.{Refuses}
 use Rattle.records.specs.declared.replies.Reply.TheVariants as reply
 use Rattle.row_machine.specs.machine.Rules.{names_broken, standing_broken}
 use Rattle.row_machine.specs.machine.TableRules.{cancel_broken}
-use Rattle.core_rows.specs.Kept.{Kept}
+use Rattle.core_rows.specs.EstateView.{EstateView}
 use Rattle.core_rows.specs.Planned.{Follows}
 use Rattle.core_judging.specs.core_reports.specs.Waiting.{told_by}
 use Rattle.core_judging.specs.core_reports.proofs.Failing.{live-holds}
@@ -18,7 +18,7 @@ pub returns-in-Err : goal.returns-in-Err
 returns-in-Err c = λ store.
     let s = c.args.self.now.state in
     let command = c.args.command.now in
-    let is = ap (λ (k : Kept). k.state) c.self.view_is in
+    let is = ap (λ (k : EstateView). k.state) c.self.view_is in
     cancel-refused s command c.args.number c.args.moment c.requires.asked c.requires.names c.requires.standing
     c.args.self.now.untold c.in-Err.why c.refused_reply.result store
     (subst (λ t. Refuses c.in-Err.why (cancel_broken t command.what)) (c.view.ensures ∙ is) c.in-Err.ensures)
@@ -28,7 +28,7 @@ pub stop-requires-clause-live : goal.stop-requires-clause-live
 stop-requires-clause-live c =
     let s = c.self.inside.draft.state in
     let command = c.args.command.now in
-    let is = ap (λ (k : Kept). k.state) c.self.view_is in
+    let is = ap (λ (k : EstateView). k.state) c.self.view_is in
     let names = subst (λ t. names_broken t command ≡ None) (sym is) c.requires.names in
     let standing = subst (λ t. standing_broken t command ≡ None) (sym is) c.requires.standing in
     let free = ap (λ t. cancel_broken t command.what) (sym c.view.ensures) ∙ c.in_default.ensures in
@@ -39,7 +39,7 @@ pub stop-requires-clause-held : goal.stop-requires-clause-held
 stop-requires-clause-held c =
     let s = c.self.inside.draft.state in
     let command = c.args.command.now in
-    let is = ap (λ (k : Kept). k.state) c.self.view_is in
+    let is = ap (λ (k : EstateView). k.state) c.self.view_is in
     let names = subst (λ t. names_broken t command ≡ None) (sym is) c.requires.names in
     let standing = subst (λ t. standing_broken t command ≡ None) (sym is) c.requires.standing in
     let free = ap (λ t. cancel_broken t command.what) (sym c.view.ensures) ∙ c.in_default.ensures in
@@ -50,19 +50,19 @@ stop-requires-clause-held c =
 pub stop-requires-clause-room : goal.stop-requires-clause-room
 stop-requires-clause-room c =
     let none = none-wait _ c.self.inside.untold.items
-    (ap (λ (k : Kept). k.untold) c.self.view_is ∙ c.requires.quiet) in
+    (ap (λ (k : EstateView). k.untold) c.self.view_is ∙ c.requires.quiet) in
     omega (arith, c.self.invariant.room, ap length none)
 
 pub invariant_of-self : goal.invariant_of-self
 invariant_of-self c =
     let s = c.self.inside.draft.state in
     let command = c.args.command.now in
-    let is = ap (λ (k : Kept). k.state) c.self.view_is in
+    let is = ap (λ (k : EstateView). k.state) c.self.view_is in
     let names = subst (λ t. names_broken t command ≡ None) (sym is) c.requires.names in
     let standing = subst (λ t. standing_broken t command ≡ None) (sym is) c.requires.standing in
     let free = ap (λ t. cancel_broken t command.what) (sym c.view.ensures) ∙ c.in_default.ensures in
     let none = none-wait _ c.self.inside.untold.items
-    (ap (λ (k : Kept). k.untold) c.self.view_is ∙ c.requires.quiet) in
+    (ap (λ (k : EstateView). k.untold) c.self.view_is ∙ c.requires.quiet) in
     let stopped = stopped-is s c.args.number c.args.moment c.stop.new.draft.state c.self.inside.untold.items
     c.stop.new.untold.items c.self.invariant.whole c.self.invariant.silent c.requires.early none c.stop.ensures.untold
     (can-stop s command c.args.number c.args.moment c.requires.asked names standing c.self.invariant.whole free)
@@ -83,12 +83,12 @@ pub returns : goal.returns
 returns c = λ store.
     let s = c.self.inside.draft.state in
     let command = c.args.command.now in
-    let is = ap (λ (k : Kept). k.state) c.self.view_is in
+    let is = ap (λ (k : EstateView). k.state) c.self.view_is in
     let names = subst (λ t. names_broken t command ≡ None) (sym is) c.requires.names in
     let standing = subst (λ t. standing_broken t command ≡ None) (sym is) c.requires.standing in
     let free = ap (λ t. cancel_broken t command.what) (sym c.view.ensures) ∙ c.in_default.ensures in
     let none = none-wait _ c.self.inside.untold.items
-    (ap (λ (k : Kept). k.untold) c.self.view_is ∙ c.requires.quiet) in
+    (ap (λ (k : EstateView). k.untold) c.self.view_is ∙ c.requires.quiet) in
     let stopped = stopped-is s c.args.number c.args.moment c.stop.new.draft.state c.self.inside.untold.items
     c.stop.new.untold.items c.self.invariant.whole c.self.invariant.silent c.requires.early none c.stop.ensures.untold
     (can-stop s command c.args.number c.args.moment c.requires.asked names standing c.self.invariant.whole free)

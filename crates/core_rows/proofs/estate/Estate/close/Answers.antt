@@ -4,7 +4,7 @@ use Rattle.row_machine.specs.machine.State.{State}
 use Rattle.row_machine.specs.facts.Whole.{IsWhole}
 use Rattle.machine_laws.proofs.ChangeKinds.{closing-keeps}
 use Rattle.core_judging.specs.core_reports.specs.Waiting.{IsSilent}
-use Rattle.core_rows.specs.Kept.{Kept}
+use Rattle.core_rows.specs.EstateView.{EstateView}
 use Rattle.core_rows.proofs.Silent.{still-quiet, closed-silent}
 use Rattle.core_rows.proofs.KnownTotals.{closed-totals}
 use Rattle.core_rows.proofs.estate.Estate.close.Goals as goal
@@ -27,8 +27,8 @@ invariant_of-self c = record {
 
 pub returns-clause-state : goal.returns-clause-state
 returns-clause-state c =
-    c.close.ensures.state ∙ ap (λ (s : State). record s { closed = true }) (ap (λ (k : Kept). k.state) c.self.view_is)
+    c.close.ensures.state ∙ ap (λ (s : State). record s { closed = true }) (ap (λ (k : EstateView). k.state) c.self.view_is)
 
 pub returns-clause-untold : goal.returns-clause-untold
 returns-clause-untold c =
-    still-quiet _ _ c.self.inside.untold.items (ap (λ (k : Kept). k.untold) c.self.view_is ∙ c.requires.quiet)
+    still-quiet _ _ c.self.inside.untold.items (ap (λ (k : EstateView). k.untold) c.self.view_is ∙ c.requires.quiet)

@@ -1,8 +1,8 @@
 use Rattle.std.proofs.Common.{map, ap, sym, subst, ◌∙◌, arith}
-use Rattle.operations.specs.Kept.{kept_at}
+use Rattle.operations.specs.OperationTable.{kept_at}
 use Rattle.row_machine.specs.machine.State.{State}
 use Rattle.core_judging.specs.core_reports.specs.Jobs.{IsReported}
-use Rattle.core_rows.specs.Kept.{Kept}
+use Rattle.core_rows.specs.EstateView.{EstateView}
 use Rattle.core_judging.specs.core_reports.specs.Waiting.{told_by}
 use Rattle.core_judging.specs.core_totals.specs.Ends.{IsCounted}
 use Rattle.core_judging.specs.core_totals.specs.Totals.{AreTotals}
@@ -13,7 +13,7 @@ use Rattle.core_rows.proofs.estate.Estate.done_job.Goals as goal
 
 pub take_report-turned-requires-clause-quiet : goal.take_report-turned-requires-clause-quiet
 take_report-turned-requires-clause-quiet g c =
-    none-wait _ c.self.inside.untold.items (ap (λ (k : Kept). k.untold) c.self.view_is ∙ c.requires.quiet)
+    none-wait _ c.self.inside.untold.items (ap (λ (k : EstateView). k.untold) c.self.view_is ∙ c.requires.quiet)
 
 pub invariant_of-self : goal.invariant_of-self
 invariant_of-self g c = record {
@@ -37,4 +37,4 @@ returns g c =
     (λ (s : State). IsReported s c.args.number c.args.report c.args.moment c.take_report-turned.new.draft.state
     (map (told_by c.take_report-turned.new.draft.state.operations) c.take_report-turned.new.untold.items) c.take_report-turned.result
     (g.R.Keeper.store c.args.keeper.now) (g.R.Keeper.store c.take_report-turned.new.keeper))
-    (ap (λ (k : Kept). k.state) c.self.view_is) c.take_report-turned.ensures.turned.reported
+    (ap (λ (k : EstateView). k.state) c.self.view_is) c.take_report-turned.ensures.turned.reported

@@ -4,7 +4,7 @@ use Rattle.size_values.specs.Causes.{Refuses}
 use Rattle.size_values.specs.declared.memory.Or.TheVariants as or
 use Rattle.records.specs.declared.replies.Reply.TheVariants as reply
 use Rattle.row_machine.specs.machine.State.{State}
-use Rattle.row_machine.specs.machine.Work.{claiming}
+use Rattle.row_machine.specs.machine.Operations.{claiming}
 use Rattle.row_machine.specs.facts.Whole.{IsWhole}
 use Rattle.core_drafts.specs.Steps.{before_changes}
 use Rattle.rules_limits.specs.Limited.{limits_named}
@@ -12,7 +12,7 @@ use Rattle.row_readings.proofs.Small.{low-share_of}
 use Rattle.machine_laws.proofs.WholeKept.{whole-entered}
 use Rattle.core_rows.specs.Asked.{IsAsked}
 use Rattle.core_judging.specs.core_reports.specs.Waiting.{IsSilent}
-use Rattle.core_rows.specs.Kept.{Kept}
+use Rattle.core_rows.specs.EstateView.{EstateView}
 use Rattle.core_rows.specs.Planned.{IsToStart}
 use Rattle.core_judging.specs.core_reports.specs.Waiting.{told_by}
 use Rattle.core_judging.specs.core_totals.specs.Totals.{AreTotals}
@@ -23,10 +23,10 @@ use Rattle.core_rows.proofs.estate.Estate.start.Goals as goal
 
 pub returns-in_default : goal.returns-in_default
 returns-in_default c = λ store.
-    let is = ap (λ (k : Kept). k.state) c.self.view_is in
+    let is = ap (λ (k : EstateView). k.state) c.self.view_is in
     subst (λ t. IsAsked t c.args.command.now c.args.moment c.prepare_start.new.draft.state (map (told_by c.prepare_start.new.draft.state.operations) c.self.inside.untold.items) reply.NoMemory store store) is
     (start-refused c.self.inside.draft.state c.args.command.now c.args.moment c.prepare_start.new.draft.state (map (told_by c.prepare_start.new.draft.state.operations) c.self.inside.untold.items) or.NoMemory reply.NoMemory store tt
-    c.prepare_start.ensures.state (still-quiet _ _ c.self.inside.untold.items (ap (λ (k : Kept). k.untold) c.self.view_is ∙ c.requires.quiet)) refl)
+    c.prepare_start.ensures.state (still-quiet _ _ c.self.inside.untold.items (ap (λ (k : EstateView). k.untold) c.self.view_is ∙ c.requires.quiet)) refl)
 
 pub returns-in-Err : goal.returns-in-Err
 returns-in-Err c = λ store.
@@ -34,7 +34,7 @@ returns-in-Err c = λ store.
     let command = c.args.command.now in
     let moment = c.args.moment in
     let task = c.args.work in
-    let is = ap (λ (k : Kept). k.state) c.self.view_is in
+    let is = ap (λ (k : EstateView). k.state) c.self.view_is in
     let planned = subst (λ t. IsToStart t command moment task) (sym is) c.requires.planned in
     let claimed = c.claim-number.ensures.state ∙ ap (λ t. claiming t task moment) c.prepare_start.ensures.state in
     let same = judged-claim old command moment task c.view.result c.in-Ok.beginning.fault c.claim-number.result
@@ -49,7 +49,7 @@ returns-in-Err c = λ store.
     ∙ c.claim-number.ensures.former
     ∙ ap (λ us. before_changes us c.prepare_start.new.draft.state) c.prepare_start.ensures.log
     ∙ c.prepare_start.ensures.state)
-    (still-quiet _ _ c.self.inside.untold.items (ap (λ (k : Kept). k.untold) c.self.view_is ∙ c.requires.quiet)) c.roll_back.ensures.reply)
+    (still-quiet _ _ c.self.inside.untold.items (ap (λ (k : EstateView). k.untold) c.self.view_is ∙ c.requires.quiet)) c.roll_back.ensures.reply)
 
 pub judge_claim-judged-requires-clause-limits : goal.judge_claim-judged-requires-clause-limits
 judge_claim-judged-requires-clause-limits c =
@@ -69,7 +69,7 @@ commit_start-requires-clause-limit c =
     let command = c.args.command.now in
     let moment = c.args.moment in
     let task = c.args.work in
-    let is = ap (λ (k : Kept). k.state) c.self.view_is in
+    let is = ap (λ (k : EstateView). k.state) c.self.view_is in
     let planned = subst (λ t. IsToStart t command moment task) (sym is) c.requires.planned in
     let claimed = c.claim-number.ensures.state ∙ ap (λ t. claiming t task moment) c.prepare_start.ensures.state in
     let same = judged-claim old command moment task c.view.result c.in-Ok.beginning.fault c.claim-number.result
@@ -83,7 +83,7 @@ commit_start-requires-clause-limit c =
 
 pub commit_start-requires-clause-room : goal.commit_start-requires-clause-room
 commit_start-requires-clause-room c =
-    omega (arith, c.self.invariant.room, ap length (none-wait _ c.self.inside.untold.items (ap (λ (k : Kept). k.untold) c.self.view_is ∙ c.requires.quiet)))
+    omega (arith, c.self.invariant.room, ap length (none-wait _ c.self.inside.untold.items (ap (λ (k : EstateView). k.untold) c.self.view_is ∙ c.requires.quiet)))
 
 pub commit_start-requires-clause-small : goal.commit_start-requires-clause-small
 commit_start-requires-clause-small c = λ k.
@@ -101,7 +101,7 @@ invariant_of-self-2 c =
     let command = c.args.command.now in
     let moment = c.args.moment in
     let task = c.args.work in
-    let is = ap (λ (k : Kept). k.state) c.self.view_is in
+    let is = ap (λ (k : EstateView). k.state) c.self.view_is in
     let planned = subst (λ t. IsToStart t command moment task) (sym is) c.requires.planned in
     let claimed = c.claim-number.ensures.state ∙ ap (λ t. claiming t task moment) c.prepare_start.ensures.state in
     let same = judged-claim old command moment task c.view.result c.in-Ok.beginning.fault c.claim-number.result
@@ -136,7 +136,7 @@ returns c = λ store.
     let command = c.args.command.now in
     let moment = c.args.moment in
     let task = c.args.work in
-    let is = ap (λ (k : Kept). k.state) c.self.view_is in
+    let is = ap (λ (k : EstateView). k.state) c.self.view_is in
     let planned = subst (λ t. IsToStart t command moment task) (sym is) c.requires.planned in
     let claimed = c.claim-number.ensures.state ∙ ap (λ t. claiming t task moment) c.prepare_start.ensures.state in
     let same = judged-claim old command moment task c.view.result c.in-Ok.beginning.fault c.claim-number.result
@@ -148,7 +148,7 @@ returns c = λ store.
     (sym same ∙ c.in_default-judged.ensures) in
     let made = entered-from old task moment c.commit_start.new.draft.state c.claim-number.new.self.state c.in-Ok.beginning.project c.in-Ok.beginning.share
     claimed c.in-Ok.ensures.project c.in-Ok.ensures.share c.commit_start.ensures.state in
-    let none = ap (λ (k : Kept). k.untold) c.self.view_is ∙ c.requires.quiet in
+    let none = ap (λ (k : EstateView). k.untold) c.self.view_is ∙ c.requires.quiet in
     subst (λ t. IsAsked t command moment c.commit_start.new.draft.state (map (told_by c.commit_start.new.draft.state.operations) c.commit_start.new.untold.items) c.commit_start.result store store) is
     (start-made old command moment task c.commit_start.new.draft.state (map (told_by c.commit_start.new.draft.state.operations) c.commit_start.new.untold.items) c.commit_start.result store accepted made
     (only-one _ _ c.self.inside.untold.items _ _ none c.commit_start.ensures.untold ∙ ap (λ n. n ∷ []) c.in-Ok.ensures.notice)

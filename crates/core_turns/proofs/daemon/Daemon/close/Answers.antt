@@ -1,23 +1,23 @@
-use Rattle.core_turns.proofs.Turning.{heard, no_store, stays-short, turn-whole}
+use Rattle.core_turns.proofs.Turning.{collected, no_store, stays-short, turn-whole}
 use Rattle.core_turns.proofs.daemon.Daemon.close.Goals as goal
 
-pub hear-requires : goal.hear-requires
-hear-requires c =
+pub collect_events-requires : goal.collect_events-requires
+collect_events-requires c =
     let own = c.self.invariant in
     record { short = stays-short c.self.inside.hub tt own.silent own.whole tt own.short (c.close-answer.ensures no_store) }
 
 pub invariant_of-self : goal.invariant_of-self
 invariant_of-self c =
     let own = c.self.invariant in
-    let turn = heard c.self.inside.hub tt own.silent c.hear.ensures.silent (c.close-answer.ensures no_store) c.hear.ensures.state in
+    let turn = collected c.self.inside.hub tt own.silent c.collect_events.ensures.silent (c.close-answer.ensures no_store) c.collect_events.ensures.state in
     record {
-      quiet = c.hear.ensures.untold;
-      silent = c.hear.ensures.silent;
-      whole = rw c.hear.ensures.told (turn-whole own.whole tt turn);
-      short = rw c.hear.ensures.state (stays-short c.self.inside.hub tt own.silent own.whole tt own.short (c.close-answer.ensures no_store));
+      quiet = c.collect_events.ensures.untold;
+      silent = c.collect_events.ensures.silent;
+      whole = rw c.collect_events.ensures.told (turn-whole own.whole tt turn);
+      short = rw c.collect_events.ensures.state (stays-short c.self.inside.hub tt own.silent own.whole tt own.short (c.close-answer.ensures no_store));
     }
 
 pub returns : goal.returns
 returns c = λ store.
-    rw (c.hear.ensures.told, ← c.self.view_is)
-    (heard c.self.inside.hub tt c.self.invariant.silent c.hear.ensures.silent (c.close-answer.ensures store) c.hear.ensures.state)
+    rw (c.collect_events.ensures.told, ← c.self.view_is)
+    (collected c.self.inside.hub tt c.self.invariant.silent c.collect_events.ensures.silent (c.close-answer.ensures store) c.collect_events.ensures.state)

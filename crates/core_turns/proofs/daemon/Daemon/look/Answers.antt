@@ -1,4 +1,4 @@
-use Rattle.core_turns.proofs.Turning.{nothing-heard}
+use Rattle.core_turns.proofs.Turning.{nothing-collected}
 use Rattle.core_turns.proofs.daemon.Daemon.look.Goals as goal
 
 pub look-requires : goal.look-requires
@@ -7,4 +7,4 @@ look-requires c = record { quiet = c.self.invariant.quiet }
 pub returns : goal.returns
 returns c = λ store.
     rw (← c.self.view_is)
-    (nothing-heard c.self.inside.hub c.self.invariant.quiet tt c.self.invariant.silent (c.look.ensures store))
+    (nothing-collected c.self.inside.hub c.self.invariant.quiet tt c.self.invariant.silent (c.look.ensures store))

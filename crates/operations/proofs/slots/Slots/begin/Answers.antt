@@ -1,7 +1,7 @@
 use Rattle.std.proofs.Common.{IsSome, refl, ◌∙◌, ap, arith}
 use Rattle.operations.specs.declared.operation.Operation.{Operation}
 use Rattle.operations.specs.declared.status.Status.TheVariants as status
-use Rattle.operations.specs.Kept.{live_at, live_status}
+use Rattle.operations.specs.OperationTable.{live_at, live_status}
 use Rattle.operations.specs.Inside.{kept_in}
 use Rattle.operations.proofs.KeptLemmas.{AreKept-moved}
 use Rattle.operations.proofs.SlotsLemmas.{AreSlots-changed, live-status}

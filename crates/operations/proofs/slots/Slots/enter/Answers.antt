@@ -1,7 +1,7 @@
 use Rattle.std.proofs.Common.{◌≡◌, ◌<◌, ◌+◌, ◌++◌, ◌∷◌, [], length, refl, sym, ◌∙◌, ap, arith, length-append}
 use Rattle.operations.proofs.KeptLemmas.{AreKept-entered}
 use Rattle.operations.proofs.SlotsLemmas.{length-numbers_of, numbers-entered, AreSlots-are}
-use Rattle.operations.specs.Kept.{entered}
+use Rattle.operations.specs.OperationTable.{entered}
 use Rattle.operations.specs.Inside.{kept_in}
 use Rattle.operations.proofs.slots.Slots.enter.Goals as goal
 

@@ -1,6 +1,6 @@
 use Rattle.std.proofs.Common.{List, ◌∙◌, ap, subst}
 use Rattle.operations.specs.declared.operation.Operation.{Operation}
-use Rattle.operations.specs.Kept.{first_pending_of}
+use Rattle.operations.specs.OperationTable.{first_pending_of}
 use Rattle.operations.specs.Inside.{kept_in}
 use Rattle.operations.specs.Facts.{AreKept}
 use Rattle.operations.proofs.KeptLemmas.{pending-found}

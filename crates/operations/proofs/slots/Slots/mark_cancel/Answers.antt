@@ -1,6 +1,6 @@
 use Rattle.std.proofs.Common.{◌≡◌, Ok, refl, sym, ◌∙◌, ap, subst, arith}
 use Rattle.operations.specs.declared.operation.Operation.{Operation}
-use Rattle.operations.specs.Kept.{Kept, kept_at, cancel_answer}
+use Rattle.operations.specs.OperationTable.{OperationTable, kept_at, cancel_answer}
 use Rattle.operations.specs.Facts.{AreKept}
 use Rattle.operations.specs.Inside.{kept_in}
 use Rattle.operations.proofs.KeptLemmas.{AreKept-moved}
@@ -16,7 +16,7 @@ end-requires-clause-live g c =
 pub set_status-requires : goal.set_status-requires
 set_status-requires g c =
     let k = kept_in c.self.inside in
-    let answer = ap (λ (m : Kept g.row.W.Denot). cancel_answer (kept_at m c.args.number)) c.self.view_is in
+    let answer = ap (λ (m : OperationTable g.row.W.Denot). cancel_answer (kept_at m c.args.number)) c.self.view_is in
     cancel-live k c.args.number c.in_ok-now.now c.self.invariant.kept (answer ∙ sym c.cancel_status.ensures ∙ c.in_ok-now.was)
 
 pub invariant_of-self : goal.invariant_of-self
@@ -24,7 +24,7 @@ invariant_of-self g c =
     let s = c.self.inside in
     let h = c.self.invariant in
     let now = c.in_ok-now.now in
-    let answer = ap (λ (m : Kept g.row.W.Denot). cancel_answer (kept_at m c.args.number)) c.self.view_is in
+    let answer = ap (λ (m : OperationTable g.row.W.Denot). cancel_answer (kept_at m c.args.number)) c.self.view_is in
     let accepted : cancel_answer (kept_at (kept_in s) c.args.number) ≡ Ok now = answer ∙ sym c.cancel_status.ensures ∙ c.in_ok-now.was in
     let there = cancel-live (kept_in s) c.args.number now h.kept accepted in
     let live = cancel-moves (kept_at (kept_in s) c.args.number) now accepted c.in_default.not-Cancelled in

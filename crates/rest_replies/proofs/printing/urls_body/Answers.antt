@@ -1,0 +1,16 @@
+use Rattle.std.proofs.Common.{[], ◌∷◌, codes, ◌∙◌}
+use Rattle.std.specs.Fmt.{digits}
+use Rattle.json.specs.Print.{escape_byte}
+use Rattle.serde_json.specs.Written.{compact_text}
+use Rattle.rest_json.proofs.Gathered.{more, all_followed}
+use Rattle.rest_json.specs.Settings.{texts_data}
+use Rattle.rest_replies.specs.Replies.{success_data}
+use Rattle.rest_replies.proofs.printing.urls_body.Goals as goal
+
+pub returns : goal.returns
+unfolding success_data escape_byte digits
+returns c =
+    let t1 = more (codes "{\"metadata\":") c.in_ok-plain.ensures c.in_ok-new.ensures in
+    let t2 = more (compact_text (texts_data c.args.urls.now)) c.in_ok-texts.ensures t1 in
+    let t3 = more (codes ",\"status\":\"Success\",\"status_code\":200,\"type\":\"sync\"}") c.in_ok-text.ensures t2 in
+    c.into_bytes.ensures ∙ t3 ∙ all_followed [] (codes "{\"metadata\":") ((compact_text (texts_data c.args.urls.now)) ∷ (codes ",\"status\":\"Success\",\"status_code\":200,\"type\":\"sync\"}") ∷ [])
