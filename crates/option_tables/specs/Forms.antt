@@ -12,6 +12,7 @@ use Rattle.size_values.specs.Expiry.{expiry_of}
 use Rattle.size_values.specs.MemorySize.{memory_of}
 use Rattle.size_values.specs.Size.{size_of}
 use Rattle.size_values.specs.Boolean.{boolean_of}
+use Rattle.schedule_texts.specs.Schedules.{schedule_of}
 use Rattle.option_tables.specs.declared.form.Form.{Form}
 use Rattle.option_tables.specs.declared.form.Form.TheVariants as form
 use Rattle.option_tables.specs.declared.form.Words.{Words}
@@ -52,6 +53,7 @@ value_fault form.Cpu value = result_err (cpu_of value)
 value_fault form.Memory value = result_err (memory_of value)
 value_fault form.Expiry value = result_err (expiry_of value)
 value_fault form.Pattern value = unless (is_pattern value)
+value_fault form.Schedule value = result_err (schedule_of value)
 value_fault form.Address value = result_err (address_of value)
 value_fault form.Cidr value = cidr_fault value
 value_fault form.Networks value = unless (are_network_names value)

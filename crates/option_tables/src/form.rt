@@ -3,6 +3,7 @@ ghost use Rattle.std.specs.Result.{result_err};
 ghost use Rattle.option_tables.specs.Forms.{value_fault, words_of, is_word, unless, cidr_fault};
 
 use crate::names::{are_network_names, is_pattern};
+use schedule_texts::read_schedule;
 use size_values::{
     ValueFault, read_address, read_boolean, read_cidr, read_count, read_cpu, read_expiry,
     read_memory, read_size,
@@ -26,6 +27,8 @@ pub enum Form {
     Expiry,
     /// A pattern for the names of snapshots.
     Pattern,
+    /// When snapshots are made.
+    Schedule,
     /// An IPv4 address.
     Address,
     /// An IPv4 address with the length of its network, or the word `none`.
@@ -83,6 +86,7 @@ impl Form {
             Form::Memory => discard_value(read_memory(value)),
             Form::Expiry => discard_value(read_expiry(value)),
             Form::Pattern => in_range(is_pattern(value)),
+            Form::Schedule => discard_value(read_schedule(value)),
             Form::Address => discard_value(read_address(value)),
             Form::Cidr => check_cidr(value),
             Form::Networks => in_range(are_network_names(value)),

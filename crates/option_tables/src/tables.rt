@@ -107,7 +107,7 @@ pub const INSTANCE: &[(&str, Form, Scope)] = &[
     // Snapshot scheduling and configuration
     ("snapshots.expiry", Form::Expiry, Scope::Any),
     ("snapshots.pattern", Form::Pattern, Scope::Any),
-    ("snapshots.schedule", Form::Text, Scope::Any),
+    ("snapshots.schedule", Form::Schedule, Scope::Any),
     ("snapshots.schedule.stopped", Form::Boolean, Scope::Any),
 ];
 

@@ -13,6 +13,11 @@ use Rattle.size_values.specs.Cpu.{set_of, cpu_of}
 use Rattle.size_values.specs.Expiry.{expiry_of}
 use Rattle.size_values.specs.MemorySize.{memory_of}
 use Rattle.size_values.specs.Size.{size_of}
+use Rattle.schedule_texts.specs.Aliases.{aliases_of}
+use Rattle.schedule_texts.specs.Fields.{field_of, fields_of}
+use Rattle.schedule_texts.specs.Numbers.{bits_below}
+use Rattle.schedule_texts.specs.Parts.{number_of, part_of, range_of}
+use Rattle.schedule_texts.specs.Schedules.{schedule_of}
 use Rattle.option_tables.specs.Checks.{keys_fault, instance_fault, project_fault, network_fault, pool_fault, volume_fault, device_fault, devices_fault}
 use Rattle.option_tables.specs.Forms.{value_fault}
 use Rattle.option_tables.specs.Tables.{instance_lines, project_lines, network_lines, pool_lines, volume_lines, device_lines, device_form, device_type, listed_form, form_of}
@@ -30,7 +35,8 @@ pub options_hold : OptionsHold
 unfolding
     address_of cidr_of count_of set_of cpu_of expiry_of memory_of size_of boolean_of value_of put without replaced
     keys_fault instance_fault project_fault network_fault pool_fault volume_fault value_fault instance_lines project_lines
-    network_lines pool_lines volume_lines listed_form form_of
+    network_lines pool_lines volume_lines listed_form form_of schedule_of fields_of field_of number_of range_of part_of
+    bits_below aliases_of
 options_hold = record {
   of_instances = refl;
   bad_of_instances = refl;

@@ -91,7 +91,7 @@ instance_options =
     ∷ container "security.syscalls.intercept.setxattr" "true" "t"
     ∷ any "snapshots.expiry" "1d 2H" "1d  2H"
     ∷ any "snapshots.pattern" "a-%d.b" "%d%d"
-    ∷ any "snapshots.schedule" "@daily" ""
+    ∷ any "snapshots.schedule" "@daily" "60 * * * *"
     ∷ any "snapshots.schedule.stopped" "false" "f"
     -- patterns for the names of snapshots: four good ones, and eight bad ones
     ∷ any "snapshots.pattern" "%dx" "%d"
