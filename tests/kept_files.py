@@ -5,7 +5,9 @@
 
 PROGRAM is crates/incus_run/out/incus_run without it (`bin/incus_run --prove` makes it). Each file that is refused has to end the program
 with status 6, nothing on standard output and one sentence on standard error, and has to stay as it was, byte for byte. Of a file that
-the program made, SQLite has to find the two tables, sound, and the program has to open it again where SQLite has written to it.
+the program made, SQLite has to find the two tables, sound, and the program has to open it again where SQLite has written to it. `check`
+makes no file. A file with the table `records` alone opens, and gets its version with the first change. After a clean end a copy of the
+file without its log has all rows.
 It ends with status 1 where something is otherwise.
 """
 import os
@@ -25,6 +27,9 @@ CANNOT_OPEN = "the file cannot be opened for reading and writing, or made"
 NO_DATABASE = "the file is not a whole SQLite database"
 OTHER = "the file is a database of another program"
 NO_ENTRY = "a row of the table records is not one that this program writes"
+AUTO_VACUUM = (
+    "the file has auto_vacuum, which this program doesn't read: PRAGMA auto_vacuum = 0; VACUUM by sqlite3 takes it off")
+MISSING = "there is no such file, or it is empty"
 NEWER = "the file was made by a newer version of this program (format 2, this one reads 1)"
 PROJECT = b'POST /1.0/projects HTTP/1.1\r\nHost: localhost\r\nContent-Length: 14\r\n\r\n{"name":"lab"}'
 faults = []
@@ -49,6 +54,14 @@ def read_only(file):
     file.chmod(0o444)
 
 
+def auto_vacuum(file):
+    """The tables of the program in a database whose pages SQLite moves."""
+    made = sqlite3.connect(file, isolation_level=None)
+    made.execute("PRAGMA auto_vacuum = 1")
+    made.close()
+    database(*OURS)(file)
+
+
 REFUSED = [
     ("a text", content(b"bread, milk\n"), NO_DATABASE),
     ("one byte", content(b"x"), NO_DATABASE),
@@ -59,7 +72,8 @@ REFUSED = [
     ("one with views and triggers", database(
         "CREATE TABLE notes (title TEXT)", "CREATE VIEW titles AS SELECT title FROM notes",
         "CREATE TRIGGER noted AFTER INSERT ON notes BEGIN DELETE FROM notes; END"), OTHER),
-    ("records alone", database(RECORDS), OTHER),
+    ("records and another table", database(RECORDS, "CREATE TABLE notes (title TEXT)"), OTHER),
+    ("auto_vacuum", auto_vacuum, AUTO_VACUUM),
     ("records of another shape", database(FORMAT, "CREATE TABLE records (kind, key)", "INSERT INTO format VALUES (1)"), OTHER),
     ("a table more", database(*OURS, "CREATE TABLE notes (title TEXT)"), OTHER),
     ("no version", database(FORMAT, RECORDS), OTHER),
@@ -82,8 +96,8 @@ def as_nobody():
         os.setuid(65534)
 
 
-def run(program, file, text=b""):
-    return subprocess.run([program, "run", "--db", str(file)], input=text, capture_output=True, check=False, preexec_fn=as_nobody)
+def run(program, file, text=b"", command="run"):
+    return subprocess.run([program, command, "--db", str(file)], input=text, capture_output=True, check=False, preexec_fn=as_nobody)
 
 
 def bytes_of(folder):
@@ -146,6 +160,79 @@ def try_kept(program, folder):
         faults.append(f"opened after SQLite: status {ran.returncode}, said {ran.stderr.decode()!r}, {ran.stdout!r}")
 
 
+def open_folder(folder):
+    folder.mkdir()
+    folder.chmod(0o777)
+
+
+def open_files(folder):
+    for name in folder.iterdir():
+        name.chmod(0o666)
+
+
+def try_missing(program, folder):
+    """`check` tells what is kept, so it makes no file."""
+    open_folder(folder)
+    empty = folder / "empty.db"
+    empty.touch()
+    empty.chmod(0o666)
+    for file in (folder / "rows.db", folder / "missing/rows.db", empty):
+        ran = run(program, file, command="check")
+        said, wanted = ran.stderr.decode(), f"incus_run: {file}: {MISSING}\n"
+        if ran.returncode != 6 or ran.stdout or said != wanted:
+            faults.append(f"check of no file: status {ran.returncode}, said {said!r}, wanted {wanted!r}")
+    if list(folder.iterdir()) != [empty] or empty.stat().st_size:
+        faults.append(f"check made {list(folder.iterdir())}")
+
+
+def try_first_version(program, folder):
+    """A file with the table `records` alone opens, and gets its version with the first change of a row."""
+    open_folder(folder)
+    file = folder / "rows.db"
+    database(RECORDS)(file)
+    open_files(folder)
+    ran = run(program, file, PROJECT)
+    if ran.returncode != 0 or ran.stderr:
+        faults.append(f"records alone: status {ran.returncode}, said {ran.stderr.decode()!r}")
+    if select(file, "SELECT sql FROM sqlite_schema WHERE sql IS NOT NULL ORDER BY name") != [(FORMAT,), (RECORDS,)]:
+        faults.append("records alone: the file did not get its version")
+    if select(file, "SELECT version FROM format") != [(1,)]:
+        faults.append("records alone: another version")
+    select(file, "PRAGMA journal_mode = delete")
+    write = sqlite3.connect(file, isolation_level=None)
+    write.execute("DROP TABLE format")
+    write.close()
+    open_files(folder)
+    before = bytes_of(folder)
+    ran = run(program, file, command="check")
+    if ran.returncode != 0 or b"projects 2" not in ran.stdout:
+        faults.append(f"check of records alone: status {ran.returncode}, said {ran.stderr.decode()!r}, {ran.stdout!r}")
+    ran = run(program, file, b"GET /1.0/projects HTTP/1.1\r\nHost: localhost\r\n\r\n")
+    if ran.returncode != 0 or b"/1.0/projects/lab" not in ran.stdout:
+        faults.append(f"opened records alone: status {ran.returncode}, said {ran.stderr.decode()!r}, {ran.stdout!r}")
+    if not is_as_it_was(before, bytes_of(folder)):
+        faults.append("records alone: the file has changed without a change")
+
+
+def try_alone(program, folder):
+    """After a clean end the file alone, copied without its log, has all rows, also for the stock SQLite."""
+    open_folder(folder)
+    file, copy = folder / "rows.db", folder / "copy.db"
+    bodies = [b'{"name":"p%d"}' % number for number in range(300)]
+    asked = [b"POST /1.0/projects HTTP/1.1\r\nHost: localhost\r\nContent-Length: %d\r\n\r\n%s" % (len(body), body) for body in bodies]
+    ran = run(program, file, b"".join(asked))
+    if ran.returncode != 0 or ran.stderr:
+        faults.append(f"300 projects: status {ran.returncode}, said {ran.stderr.decode()!r}")
+    shutil.copy(file, copy)
+    found = select(copy, "SELECT count(*) FROM records WHERE key GLOB '*p[0-9]*'")
+    if found[0][0] < 300:
+        faults.append(f"the file alone has {found[0][0]} rows of 300 projects")
+    open_files(folder)
+    ran = run(program, copy, command="check")
+    if ran.returncode != 0 or b"projects 301" not in ran.stdout:
+        faults.append(f"the file alone: status {ran.returncode}, said {ran.stderr.decode()!r}, {ran.stdout!r}")
+
+
 def main():
     program = Path(sys.argv[1] if len(sys.argv) > 1 else TOP / "crates/incus_run/out/incus_run").resolve()
     if not program.exists():
@@ -156,6 +243,9 @@ def main():
         for at, (case, make, sentence) in enumerate(REFUSED):
             try_refused(program, Path(top, str(at)), case, make, sentence)
         try_kept(program, Path(top, "kept"))
+        try_missing(program, Path(top, "none"))
+        try_first_version(program, Path(top, "first"))
+        try_alone(program, Path(top, "alone"))
     for fault in faults:
         print(fault)
     print(f"{len(REFUSED)} files refused, {len(faults)} faults")

@@ -5,6 +5,7 @@ use denote.Param.SendFields.{declared_send}
 use denote.Struct.Declared.{row}
 use Rattle.size_values.proofs.text.Text.TheSendSync as text_crosses
 use Rattle.sqlite_keeper.proofs.trouble.Trouble.TheSendSync as trouble_crosses
+use Rattle.sqlite_keeper.proofs.rows_file.Identity.TheSendSync as identity_crosses
 use Rattle.sqlite.proofs.connection.Connection.TheSendSync as connection_crosses
 use Rattle.sqlite.below.sqlite_store.proofs.store.FileStore.TheSendSync as store_crosses
 use Rattle.sqlite.below.sqlite_disk.proofs.modelled.Modelled.TheSendSync as disk_crosses
@@ -41,7 +42,7 @@ rows_send = declared_send rows.the_type (
       (stores.ghosts (modelled.the_row host.the_row unknown.the_row calls.ghosts starts.ghosts)
       (disks.ghosts host.the_row unknown.the_row calls.ghosts disks.no_dict starts.ghosts disks.no_dict disks.no_dict)
       stores.no_dict) store_send,
-  tt,
+  (search sendable depth 9, (search (sendable, identity_crosses.the_send) depth 9, tt)),
 )
 
 inside_send : IsSend inside.the_row
@@ -50,10 +51,19 @@ inside_send = declared_send inside.the_type (
   (
     search (sendable, text_crosses.the_send) depth 9,
     (
-      search (sendable, rows_send) depth 9,
+      search sendable depth 9,
       (
-        search sendable depth 9,
-        (search sendable depth 9, (search (sendable, trouble_crosses.the_send) depth 9, tt)),
+        search (sendable, rows_send) depth 9,
+        (
+          search sendable depth 9,
+          (
+            search sendable depth 9,
+            (
+              search (sendable, trouble_crosses.the_send) depth 9,
+              (search (sendable, trouble_crosses.the_send) depth 9, (search sendable depth 9, tt)),
+            ),
+          ),
+        ),
       ),
     ),
   ),

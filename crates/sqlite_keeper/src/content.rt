@@ -1,9 +1,9 @@
-//! The table `records` of entries, and the table `format`, which says the version of the file. Every version has that
-//! table, so that an older program can tell a newer file.
+//! The table `records` of entries, and the table `format`, which says the version of the file, so that an older program
+//! can tell a newer file. A file that has the first of them alone is of version 1.
 ghost use Rattle.std.specs.Prelude.{◌≡◌, true, IfOk, IfErr};
 ghost use Rattle.sqlite.specs.Held.{state};
 ghost use Rattle.sqlite_keeper.specs.Guarded.{StaysGuarded};
-ghost use Rattle.sqlite_keeper.specs.Troubles.{is_refusal, is_well_said};
+ghost use Rattle.sqlite_keeper.specs.Troubles.{is_refusal, is_well_said, lacks_version};
 
 use crate::trouble::{Trouble, trouble_of};
 use size_values::Or;
@@ -15,6 +15,8 @@ use sqlite::{Alter, Connection, Error, ErrorCode, Transaction, params};
 enum Content {
     Nothing,
     Records,
+    /// The table of the first version, before files had the table `format`.
+    RecordsAlone,
     NewerVersion(u32),
     OtherTables,
 }
@@ -34,7 +36,7 @@ const OBJECTS: &str = "SELECT count(*) FROM sqlite_schema WHERE substr(name, 1, 
 const MADE_BY: &str = "SELECT count(*) FROM sqlite_schema WHERE sql = ?1";
 
 /// The number that a query answers.
-fn number<S: Alter>(
+pub(crate) fn number<S: Alter>(
     database: &mut Connection<S>,
     sql: &str,
     params: &[ValueRef<'_>],
@@ -100,6 +102,21 @@ fn content_with_format<S: Alter>(
     Ok(content_of_version(version, objects, has_records))
 }
 
+/// What stands in a database that lacks the table `format`, and has as many objects.
+fn content_without_format<S: Alter>(
+    database: &mut Connection<S>,
+    objects: i64,
+) -> Result<Content, Error>
+    ensures guarded { StaysGuarded S.Store database.old database.new }
+    ensures said { IfOk result (λ content. is_well_said content ≡ true) }
+{
+    if has_table(database, RECORDS)? && objects == 1 {
+        Ok(Content::RecordsAlone)
+    } else {
+        Ok(Content::OtherTables)
+    }
+}
+
 /// What stands in a database of as many objects.
 fn content_of_objects<S: Alter>(
     database: &mut Connection<S>,
@@ -114,7 +131,7 @@ fn content_of_objects<S: Alter>(
     if has_table(database, FORMAT)? {
         content_with_format(database, objects)
     } else {
-        Ok(Content::OtherTables)
+        content_without_format(database, objects)
     }
 }
 
@@ -126,60 +143,100 @@ fn content_of<S: Alter>(database: &mut Connection<S>) -> Result<Content, Error>
     content_of_objects(database, objects)
 }
 
-/// Runs the statements that make the tables.
-fn run_makers<S: Alter>(transaction: &mut Transaction<'_, S>) -> Result<(), Error>
+/// Makes the table `records`, where it is missing.
+fn make_records<S: Alter>(
+    transaction: &mut Transaction<'_, S>,
+    has_records: bool,
+) -> Result<(), Error>
+    ensures same_reference { transaction.new.conn.ghost_name ≡ transaction.old.conn.ghost_name }
+    ensures shield { (state S.Store transaction.old.conn.now).IsShielded
+        → (state S.Store transaction.new.conn.now).IsShielded }
+{
+    if has_records {
+        return Ok(());
+    }
+    transaction.execute(RECORDS, &[])?;
+    Ok(())
+}
+
+/// Runs the statements that make the table `format`, and the table `records` where it is missing too.
+fn run_makers<S: Alter>(
+    transaction: &mut Transaction<'_, S>,
+    has_records: bool,
+) -> Result<(), Error>
     ensures same_reference { transaction.new.conn.ghost_name ≡ transaction.old.conn.ghost_name }
     ensures shield { (state S.Store transaction.old.conn.now).IsShielded
         → (state S.Store transaction.new.conn.now).IsShielded }
 {
     transaction.execute(FORMAT, &[])?;
-    transaction.execute(RECORDS, &[])?;
+    make_records(transaction, has_records)?;
     transaction.execute(SAYS_VERSION, &[])?;
     Ok(())
 }
 
-/// Makes the tables in a database that has none: both or neither.
-fn make_tables<S: Alter>(database: &mut Connection<S>) -> Result<(), Error>
+/// Makes the tables that a database lacks: all of them or none.
+fn make_tables<S: Alter>(database: &mut Connection<S>, has_records: bool) -> Result<(), Error>
     ensures { StaysGuarded S.Store database.old database.new }
 {
     if !database.is_autocommit() {
         return Err(Error::SqliteFailure(ErrorCode::TransactionState));
     }
     let mut transaction = database.transaction();
-    match run_makers(&mut transaction) {
+    match run_makers(&mut transaction, has_records) {
         Ok(()) => transaction.commit(),
         Err(error) => Err(error),
     }
 }
 
-/// Makes the tables where there are none, and says what else stands in the database.
+/// Makes the table `format` in a database that has the table `records` alone.
+pub fn say_version<S: Alter>(database: &mut Connection<S>) -> Result<(), Error>
+    ensures { StaysGuarded S.Store database.old database.new }
+{
+    make_tables(database, true)
+}
+
+/// Makes the tables where there are none, if they are to be made, and says what else stands in the database.
 fn admit_content<S: Alter>(
     database: &mut Connection<S>,
     content: Content,
-) -> Result<(), Or<Trouble>>
+    is_made: bool,
+) -> Result<bool, Or<Trouble>>
     requires { is_well_said content ≡ true }
     ensures guarded { StaysGuarded S.Store database.old database.new }
     ensures cause { IfErr result (λ why. is_refusal why ≡ true) }
+    ensures lacking { IfOk result (λ lacks. lacks ≡ lacks_version content) }
 {
     match content {
-        Content::Records => Ok(()),
+        Content::Records => Ok(false),
+        Content::RecordsAlone => Ok(true),
         Content::NewerVersion(version) => Err(Or::Why(Trouble::NewerVersion(version))),
         Content::OtherTables => Err(Or::Why(Trouble::OtherTables)),
-        Content::Nothing => match make_tables(database) {
-            Ok(()) => Ok(()),
+        Content::Nothing if !is_made => Err(Or::Why(Trouble::Missing)),
+        Content::Nothing => match make_tables(database, false) {
+            Ok(()) => Ok(false),
             Err(error) => Err(trouble_of(error)),
         },
     }
 }
 
-/// Lets a database pass that is of this program, and makes its tables in an empty one. Any other is not
-/// written to.
-pub fn admit<S: Alter>(database: &mut Connection<S>) -> Result<(), Or<Trouble>>
+/// Lets a database pass that is of this program. Of an empty one it makes the tables, or refuses it. Any other is not
+/// written to. It answers whether the table `format` is lacking.
+pub fn admit<S: Alter>(database: &mut Connection<S>, is_made: bool) -> Result<bool, Or<Trouble>>
     ensures guarded { StaysGuarded S.Store database.old database.new }
     ensures cause { IfErr result (λ why. is_refusal why ≡ true) }
 {
     match content_of(database) {
-        Ok(content) => admit_content(database, content),
+        Ok(content) => admit_content(database, content, is_made),
         Err(error) => Err(trouble_of(error)),
+    }
+}
+
+/// Whether a database answers: a failure of the disk may close it for good.
+pub fn answers<S: Alter>(database: &mut Connection<S>) -> bool
+    ensures { StaysGuarded S.Store database.old database.new }
+{
+    match number(database, OBJECTS, &[]) {
+        Ok(_) => true,
+        Err(_) => false,
     }
 }

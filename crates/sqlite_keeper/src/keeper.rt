@@ -1,27 +1,36 @@
-ghost use Rattle.std.specs.Prelude.{◌≡◌, ◌≢◌, true, false, None, Some, option_copied};
-ghost use Rattle.std.specs.Prelude.{IfOk, OnOk, IsErr, IsErrOf};
+ghost use Rattle.std.specs.Prelude.{◌≡◌, ◌≢◌, true, false, None, Some, option_copied, is_some, is_ok};
+ghost use Rattle.std.specs.Prelude.{IfOk, IfErr, OnOk, IsErr, IsErrOf};
 ghost use Rattle.size_values.specs.CallCounts.{CountsFailure, called};
 ghost use Rattle.size_values.specs.Calls.{has_failed};
 ghost use Rattle.record_keeper.specs.Entries.{IsOrderedEntries};
-ghost use Rattle.sqlite_keeper.specs.Kept.{SaysWhy, after_refusal};
-ghost use Rattle.sqlite_keeper.specs.declared.trouble.Trouble.TheVariants.{NotLoaded};
+ghost use Rattle.sqlite_keeper.specs.Kept.{SaysWhy, after_refusal, new_keeper, why_closed};
+ghost use Rattle.sqlite_keeper.specs.Troubles.{is_failure};
 
-use crate::rows_file::RowsFile;
+use crate::rows_file::{Identity, Reopened, RowsFile};
 use crate::trouble::Trouble;
 use record_keeper::{Keeper, KeeperFailed};
 use size_values::{Entry, EntryChange, Or, Seq, Text};
 use std::marker::Model;
 
 /// A keeper whose entries are the rows of the table `records` of an SQLite file. It tells no entries.
-/// The file and the log that SQLite keeps beside it, whose name ends in `-wal`, are one database.
+/// The file and the log that SQLite keeps beside it, whose name ends in `-wal`, are one database, and
+/// the file alone is it once the keeper is closed.
+///
+/// After a failed sync the library asks nothing more of the file. So it is opened again, which writes
+/// the file to the disk and reads it from there, and the changes stand there or they don't: a commit
+/// whose changes stand is well. Where the file can't be opened again, it is lost to this keeper, and
+/// nobody knows of the last changes until another keeper opens it.
 #[derive(Drop)]
 pub struct SqliteKeeper {
     rt: HostRuntime,
     path: Text,
+    is_made: bool,
     rows: Option<RowsFile>,
     calls: u64,
     failures: u64,
     trouble: Option<Trouble>,
+    lost: Option<Trouble>,
+    mended: u64,
 }
 
 impl Model for SqliteKeeper {
@@ -32,30 +41,46 @@ impl Model for SqliteKeeper {
 
     ghost view = { λ k. record {
       path = k.path;
+      is_made = k.is_made;
       is_open = is_some k.rows;
       calls = k.calls;
       failures = k.failures;
       trouble = k.trouble;
+      lost = k.lost;
+      mended = k.mended;
     } };
 }
 
 impl SqliteKeeper {
-    /// A keeper of the file at this path, which its first load opens, or makes.
-    pub fn at(rt: HostRuntime, path: Text) -> SqliteKeeper
-        ensures { result ≡ record { path = path; is_open = false; calls = 0; failures = 0; trouble = None } }
+    /// A keeper of the file at this path, which its first load opens. One that is missing is made then, or refused.
+    pub fn at(rt: HostRuntime, path: Text, is_made: bool) -> SqliteKeeper
+        ensures { result ≡ new_keeper path is_made }
     {
         SqliteKeeper {
             rt,
             path,
+            is_made,
             rows: None,
             calls: 0,
             failures: 0,
             trouble: None,
+            lost: None,
+            mended: 0,
         }
     }
 
-    /// Lets go of its file, which another keeper may open then.
-    pub fn close(self) {}
+    /// Lets go of its file, once what the log has is copied into it, so that the file alone holds all rows. Where that
+    /// fails, the two files together hold them.
+    pub fn close(&mut self) -> Result<(), Or<Trouble>>
+        ensures closed { self.new ≡ record self.old { is_open = false } }
+        ensures before { self.old.is_open ≡ false → is_ok result ≡ true }
+        ensures cause { IfErr result (λ why. is_failure why ≡ true) }
+    {
+        match self.rows.take() {
+            Some(rows) => rows.close(),
+            None => Ok(()),
+        }
+    }
 
     /// The path of its file, as it was given.
     pub fn path(&self) -> &str
@@ -71,30 +96,160 @@ impl SqliteKeeper {
         self.trouble.as_ref()
     }
 
+    /// Whether its file failed and could not be opened again. From then on each commit fails.
+    pub fn is_lost(&self) -> bool
+        ensures { result ≡ is_some self.now.lost }
+    {
+        self.lost.is_some()
+    }
+
+    /// How many commits were well though the disk had failed: their changes were found in the file.
+    pub fn mended(&self) -> u64
+        ensures { result ≡ self.now.mended }
+    {
+        self.mended
+    }
+
     /// The entries of the file, which is opened first where it is not open.
     fn entries(&mut self) -> Result<Seq<Entry>, Or<Trouble>>
         ensures ordered { IfOk result IsOrderedEntries }
-        ensures kept { self.new ≡ record self.old { is_open = self.new.is_open } }
-        ensures open { OnOk result (self.new.is_open ≡ true) }
+        ensures kept { self.new ≡ record self.old { is_open = self.new.is_open; lost = self.new.lost } }
+        ensures open { OnOk result ((self.new.is_open ≡ true) × (self.new.lost ≡ None)) }
         ensures stays { self.old.is_open ≡ true → self.new.is_open ≡ true }
     {
         let mut rows = match self.rows.take() {
             Some(rows) => rows,
-            None => RowsFile::open(&self.rt, &self.path)?,
+            None => RowsFile::open(&self.rt, &self.path, self.is_made)?,
         };
         let found = rows.entries(self.rt.alloc());
-        self.rows = Some(rows);
+        self.hold(rows);
+        self.lost = None;
         found
+    }
+
+    /// Takes its file back.
+    fn hold(&mut self, rows: RowsFile)
+        ensures { self.new ≡ record self.old { is_open = true } }
+    {
+        self.rows = Some(rows);
     }
 
     /// Makes the changes in the file, where it is open.
     fn change(&mut self, changes: &Seq<EntryChange>) -> Result<(), Or<Trouble>>
-        ensures kept { self.new ≡ self.old }
-        ensures before { self.old.is_open ≡ false → IsErrOf result (Or.Why NotLoaded) }
+        ensures kept { self.new
+            ≡ record self.old {
+              is_open = self.new.is_open;
+              lost = self.new.lost;
+              mended = self.new.mended;
+            } }
+        ensures before { self.old.is_open ≡ false
+            → (self.new ≡ self.old) × IsErrOf result (Or.Why (why_closed self.old)) }
+        ensures open { OnOk result (self.new.is_open ≡ true) }
+        ensures mended { IsErr result → self.new.mended ≡ self.old.mended }
+        ensures stays { self.new.is_open ≡ true → self.new.lost ≡ self.old.lost }
+        ensures lost { self.old.is_open ≡ true → self.new.is_open ≡ false → is_some self.new.lost ≡ true }
     {
-        match &mut self.rows {
-            Some(rows) => rows.change(changes.view()),
-            None => Err(Or::Why(Trouble::NotLoaded)),
+        match self.rows.take() {
+            Some(rows) => self.change_in(rows, changes),
+            None => Err(Or::Why(self.lost.unwrap_or(Trouble::NotLoaded))),
+        }
+    }
+
+    /// Makes the changes in its file, which it takes back. Where the file closed itself, it is opened again.
+    fn change_in(
+        &mut self,
+        mut rows: RowsFile,
+        changes: &Seq<EntryChange>,
+    ) -> Result<(), Or<Trouble>>
+        requires { self.old.is_open ≡ false }
+        ensures kept { self.new
+            ≡ record self.old {
+              is_open = self.new.is_open;
+              lost = self.new.lost;
+              mended = self.new.mended;
+            } }
+        ensures open { OnOk result (self.new.is_open ≡ true) }
+        ensures mended { IsErr result → self.new.mended ≡ self.old.mended }
+        ensures stays { self.new.is_open ≡ true → self.new.lost ≡ self.old.lost }
+        ensures lost { self.new.is_open ≡ false → is_some self.new.lost ≡ true }
+    {
+        match rows.keep(changes.view()) {
+            Ok(()) => {
+                self.hold(rows);
+                Ok(())
+            }
+            Err(Or::Why(trouble)) => self.settle(rows, changes, trouble),
+            Err(Or::NoMemory) => {
+                self.hold(rows);
+                Err(Or::NoMemory)
+            }
+        }
+    }
+
+    /// Takes its file back, in which these changes failed for this trouble; where it closed itself, it is opened again.
+    fn settle(
+        &mut self,
+        mut rows: RowsFile,
+        changes: &Seq<EntryChange>,
+        trouble: Trouble,
+    ) -> Result<(), Or<Trouble>>
+        requires { self.old.is_open ≡ false }
+        ensures kept { self.new
+            ≡ record self.old {
+              is_open = self.new.is_open;
+              lost = self.new.lost;
+              mended = self.new.mended;
+            } }
+        ensures open { OnOk result (self.new.is_open ≡ true) }
+        ensures mended { IsErr result → self.new.mended ≡ self.old.mended }
+        ensures stays { self.new.is_open ≡ true → self.new.lost ≡ self.old.lost }
+        ensures lost { self.new.is_open ≡ false → is_some self.new.lost ≡ true }
+        ensures cause { IfErr result (λ why. why ≡ Or.Why trouble) }
+    {
+        if rows.is_open() {
+            self.hold(rows);
+            return Err(Or::Why(trouble));
+        }
+        let identity = rows.identity();
+        drop(rows);
+        self.reopen(identity, changes, trouble)
+    }
+
+    /// Opens its file again, which closed itself for this trouble while these changes were made, and answers whether
+    /// they stand.
+    fn reopen(
+        &mut self,
+        identity: Option<Identity>,
+        changes: &Seq<EntryChange>,
+        trouble: Trouble,
+    ) -> Result<(), Or<Trouble>>
+        requires { self.old.is_open ≡ false }
+        ensures kept { self.new
+            ≡ record self.old {
+              is_open = self.new.is_open;
+              lost = self.new.lost;
+              mended = self.new.mended;
+            } }
+        ensures open { OnOk result (self.new.is_open ≡ true) }
+        ensures mended { IsErr result → self.new.mended ≡ self.old.mended }
+        ensures stays { self.new.is_open ≡ true → self.new.lost ≡ self.old.lost }
+        ensures lost { self.new.is_open ≡ false → self.new.lost ≡ Some trouble }
+        ensures cause { IfErr result (λ why. why ≡ Or.Why trouble) }
+    {
+        match RowsFile::reopen(&self.rt, &self.path, identity, changes.view()) {
+            Reopened::Kept(rows) => {
+                self.hold(rows);
+                self.mended = self.mended.saturating_add(1);
+                Ok(())
+            }
+            Reopened::Undone(rows) => {
+                self.hold(rows);
+                Err(Or::Why(trouble))
+            }
+            Reopened::Lost => {
+                self.lost = Some(trouble);
+                Err(Or::Why(trouble))
+            }
         }
     }
 
@@ -103,6 +258,9 @@ impl SqliteKeeper {
     fn refused<T>(&mut self, why: Or<Trouble>) -> Result<T, Or<KeeperFailed>>
         ensures err { IsErr result }
         ensures kept { self.new ≡ after_refusal why self.old }
+        ensures open { self.new.is_open ≡ self.old.is_open }
+        ensures lost { self.new.lost ≡ self.old.lost }
+        ensures mended { self.new.mended ≡ self.old.mended }
         ensures failures { CountsFailure self.old.failures self.new.failures result }
         ensures says { SaysWhy self.old self.new result }
         ensures trouble { why ≢ Or.NoMemory → has_failed result ≡ true }
@@ -129,10 +287,11 @@ impl Keeper for SqliteKeeper {
               calls = called 1 self.old.calls;
               failures = self.new.failures;
               trouble = self.new.trouble;
+              lost = self.new.lost;
             } }
         ensures failures { CountsFailure self.old.failures self.new.failures result }
         ensures says { SaysWhy self.old self.new result }
-        ensures opens { OnOk result (self.new.is_open ≡ true) }
+        ensures opens { OnOk result ((self.new.is_open ≡ true) × (self.new.lost ≡ None)) }
         ensures stays { self.old.is_open ≡ true → self.new.is_open ≡ true }
     {
         self.calls = self.calls.saturating_add(1);
@@ -142,18 +301,27 @@ impl Keeper for SqliteKeeper {
         }
     }
 
-    /// Before a load that reached the file it fails.
+    /// Before a load that reached the file it fails, and so it does once the file is lost. The file stays open, or it
+    /// is lost in this call, which fails then.
     fn commit(&mut self, changes: &Seq<EntryChange>) -> Result<(), Or<KeeperFailed>>
         ensures counted { self.new
             ≡ record self.old {
+              is_open = self.new.is_open;
               calls = called 1 self.old.calls;
               failures = self.new.failures;
               trouble = self.new.trouble;
+              lost = self.new.lost;
+              mended = self.new.mended;
             } }
         ensures failures { CountsFailure self.old.failures self.new.failures result }
         ensures says { SaysWhy self.old self.new result }
         ensures early { self.old.is_open ≡ false
-            → (has_failed result ≡ true) × (self.new.trouble ≡ Some NotLoaded) }
+            → (has_failed result ≡ true) × (self.new.trouble ≡ Some (why_closed self.old)) }
+        ensures still { self.old.is_open ≡ false → self.new.lost ≡ self.old.lost }
+        ensures closed { self.new.is_open ≡ false → IsErr result }
+        ensures mended { IsErr result → self.new.mended ≡ self.old.mended }
+        ensures stays { self.new.is_open ≡ true → self.new.lost ≡ self.old.lost }
+        ensures lost { self.old.is_open ≡ true → self.new.is_open ≡ false → is_some self.new.lost ≡ true }
     {
         self.calls = self.calls.saturating_add(1);
         match self.change(changes) {

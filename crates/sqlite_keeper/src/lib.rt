@@ -8,10 +8,12 @@ mod entries;
 mod keeper;
 mod order;
 mod rows_file;
+mod standing;
 mod trouble;
 
 pub use changes::change_all;
-pub use content::admit;
+pub use content::{admit, answers, say_version};
 pub use entries::entries_in;
 pub use keeper::SqliteKeeper;
+pub use standing::all_stand;
 pub use trouble::{Trouble, trouble_of};

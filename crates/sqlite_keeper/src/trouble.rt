@@ -11,8 +11,12 @@ use std::fmt;
 #[derive(Clone, Copy, PartialEq, Eq)]
 pub enum Trouble {
     CannotOpen,
+    /// There is no file, or nothing in it, and none was to be made.
+    Missing,
     InUse,
     NotADatabase,
+    /// A database whose pages SQLite moves to keep the file short (`auto_vacuum`), which the library doesn't read.
+    AutoVacuum,
     /// A whole database, with other tables than those of this program.
     OtherTables,
     /// The version that the file says it has.
@@ -30,8 +34,13 @@ impl Trouble {
     fn sentence(&self) -> &'static str {
         match self {
             Trouble::CannotOpen => "the file cannot be opened for reading and writing, or made",
+            Trouble::Missing => "there is no such file, or it is empty",
             Trouble::InUse => "another program has the file open",
             Trouble::NotADatabase => "the file is not a whole SQLite database",
+            Trouble::AutoVacuum => {
+                "the file has auto_vacuum, which this program doesn't read: \
+                 PRAGMA auto_vacuum = 0; VACUUM by sqlite3 takes it off"
+            }
             Trouble::OtherTables => "the file is a database of another program",
             Trouble::NewerVersion(_) => "the file was made by a newer version of this program",
             Trouble::NotAnEntry => "a row of the table records is not one that this program writes",

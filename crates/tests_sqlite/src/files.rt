@@ -129,9 +129,14 @@ pub fn all_go(alloc: Global, keeper: &mut SqliteKeeper, steps: &[Step<'_>]) -> b
     well
 }
 
-/// A keeper of the file at this path.
+/// A keeper of the file at this path, which makes it where it is missing.
 pub fn keeper_at(rt: &HostRuntime, path: &str) -> Result<SqliteKeeper, NoMemory> {
-    Ok(SqliteKeeper::at(*rt, Text::from_text(rt.alloc(), path)?))
+    Ok(SqliteKeeper::at(*rt, Text::from_text(rt.alloc(), path)?, true))
+}
+
+/// A keeper of a file that has to be there.
+pub fn keeper_of(rt: &HostRuntime, path: &str) -> Result<SqliteKeeper, NoMemory> {
+    Ok(SqliteKeeper::at(*rt, Text::from_text(rt.alloc(), path)?, false))
 }
 
 /// Whether these steps of a new keeper of the file at this path end so.
@@ -140,6 +145,6 @@ pub fn all_go_at(rt: &HostRuntime, path: &str, steps: &[Step<'_>]) -> bool {
         return false;
     };
     let well = all_go(rt.alloc(), &mut keeper, steps);
-    keeper.close();
+    let _closed = keeper.close();
     well
 }

@@ -1,11 +1,15 @@
 //! What is committed is found again, by the same keeper and by another one.
 use crate::files::{Row, Step, all_go, all_go_at, commits, finds, keeper_at, renew};
+use sqlite::{Connection, Error, File, FileStore};
 use sqlite_keeper::{SqliteKeeper, Trouble};
 use std::alloc::Global;
+use std::fs;
 
 const FOLDER: &str = "sqlite_tests_kept";
 
 const FILE: &str = "sqlite_tests_kept/rows.db";
+
+const LOG: &str = "sqlite_tests_kept/rows.db-wal";
 
 /// Commits one after the other, and the rows that they leave.
 const COMMITS: &[(&str, &[&[Row]], &[Row])] = &[
@@ -102,7 +106,7 @@ fn takes_in_new_file(rt: &HostRuntime, made: &[&[Row]], kept: &[Row]) -> bool {
         return false;
     };
     let same = takes(rt.alloc(), &mut keeper, made, kept);
-    keeper.close();
+    let _closed = keeper.close();
     same
 }
 
@@ -112,13 +116,79 @@ fn finds_again(rt: &HostRuntime, kept: &[Row]) -> bool {
         return false;
     };
     let same = finds(&mut keeper, kept);
-    keeper.close();
+    let _closed = keeper.close();
     same
 }
 
 /// Whether a new file keeps these rows after these changes.
 fn keeps(rt: &HostRuntime, made: &[&[Row]], kept: &[Row]) -> bool {
     renew(rt, FOLDER) && takes_in_new_file(rt, made, kept) && finds_again(rt, kept)
+}
+
+/// Rows that a file of the first version gets.
+const LATER: &[&[Row]] = &[&[(1, "b", Some(b"y"))], &[(1, "a", None)]];
+
+/// How a file of the first version is made, with a row.
+const FIRST: &str =
+    "CREATE TABLE records (kind INTEGER NOT NULL, key TEXT NOT NULL, body BLOB NOT NULL, PRIMARY KEY (kind, key)); \
+    INSERT INTO records VALUES (1, 'a', x'78')";
+
+/// Whether a file is made by these statements, and is whole without its log.
+fn is_made(rt: &HostRuntime, statements: &str) -> bool {
+    let Ok(mut database) = Connection::open(rt, FILE) else {
+        return false;
+    };
+    let made = database.execute_batch(statements).is_ok();
+    database.close().is_ok() && made
+}
+
+/// Whether a file has this many tables of its own.
+fn has_tables(rt: &HostRuntime, count: i64) -> bool {
+    let Ok(mut database) = Connection::open(rt, FILE) else {
+        return false;
+    };
+    let found = tables_of(&mut database);
+    drop(database);
+    found == Ok(count)
+}
+
+fn tables_of(database: &mut Connection<FileStore<File>>) -> Result<i64, Error> {
+    database
+        .query_row(
+            "SELECT count(*) FROM sqlite_schema WHERE type = 'table'",
+            &[],
+        )?
+        .get(0)
+}
+
+/// Whether a file of the first version opens, stays as it is while nothing changes, and gets its version then.
+fn first_version_opens(rt: &HostRuntime) -> bool {
+    let opened = [Step::Finds(&[(1, "a", Some(b"x"))]), Step::Commits(&[&[]])];
+    let changed = [
+        Step::Finds(&[(1, "a", Some(b"x"))]),
+        Step::Commits(LATER),
+        Step::Finds(&[(1, "b", Some(b"y"))]),
+    ];
+    is_made(rt, FIRST)
+        && all_go_at(rt, FILE, &opened)
+        && has_tables(rt, 1)
+        && all_go_at(rt, FILE, &changed)
+        && has_tables(rt, 2)
+        && finds_again(rt, &[(1, "b", Some(b"y"))])
+}
+
+/// Whether a file has its rows without its log, once its keeper is closed.
+fn is_whole_alone(rt: &HostRuntime) -> bool {
+    let steps = [Step::Finds(&[]), Step::Commits(LATER)];
+    all_go_at(rt, FILE, &steps)
+        && fs::remove_file(rt, LOG).is_ok()
+        && finds_again(rt, &[(1, "b", Some(b"y"))])
+}
+
+#[test]
+fn a_closed_file_is_whole(rt: HostRuntime) {
+    assert!(rt; renew(&rt, FOLDER) && is_whole_alone(&rt));
+    assert!(rt; renew(&rt, FOLDER) && first_version_opens(&rt));
 }
 
 #[test]

@@ -1,5 +1,5 @@
 //! Files that are refused, each with its trouble, and as they were.
-use crate::files::{Step, all_go, all_go_at, keeper_at, renew};
+use crate::files::{Step, all_go, all_go_at, keeper_at, keeper_of, renew};
 use sqlite::{Connection, Error};
 use sqlite_keeper::Trouble;
 use std::alloc::Global;
@@ -46,11 +46,19 @@ const REFUSED: &[(&str, Made, Trouble)] = &[
         Trouble::OtherTables,
     ),
     (
-        "a table of this name",
+        "a table of this name and an index",
         Made::Database(
-            "CREATE TABLE records (kind INTEGER NOT NULL, key TEXT NOT NULL, body BLOB NOT NULL, PRIMARY KEY (kind, key))",
+            "CREATE TABLE records (kind INTEGER NOT NULL, key TEXT NOT NULL, body BLOB NOT NULL, PRIMARY KEY (kind, key)); \
+             CREATE INDEX bodies ON records (body)",
         ),
         Trouble::OtherTables,
+    ),
+    (
+        "the beginning of a database with auto_vacuum",
+        Made::Bytes(
+            b"SQLite format 3\0\x10\0\x01\x01\0\x40\x20\x20\0\0\0\x01\0\0\0\x02\0\0\0\0\0\0\0\0\0\0\0\x01\0\0\0\x04\0\0\0\0\0\0\0\x01",
+        ),
+        Trouble::AutoVacuum,
     ),
     (
         "a table of another shape",
@@ -176,8 +184,22 @@ fn is_refused_beside(rt: &HostRuntime) -> bool {
     };
     let opened = all_go(rt.alloc(), &mut first, &[Step::Finds(&[])]);
     let refused = is_refused(rt, FILE, Trouble::InUse);
-    first.close();
+    let _closed = first.close();
     opened && refused
+}
+
+/// Whether a keeper that makes no file refuses one that is missing, and there is none afterwards.
+fn is_refused_and_missing(rt: &HostRuntime) -> bool {
+    let Ok(mut keeper) = keeper_of(rt, FILE) else {
+        return false;
+    };
+    let steps = [
+        Step::FailsToLoad,
+        Step::HasFailed(1, Some(Trouble::Missing)),
+    ];
+    let refused = all_go(rt.alloc(), &mut keeper, &steps);
+    let _closed = keeper.close();
+    refused && fs::read(rt, FILE).is_err()
 }
 
 #[test]
@@ -187,6 +209,7 @@ fn other_files_are_refused_and_stay_as_they_were(rt: HostRuntime) {
     }
     assert!(rt; renew(&rt, FOLDER) && is_refused_beside(&rt));
     assert!(rt; is_refused(&rt, MISSING, Trouble::CannotOpen));
+    assert!(rt; renew(&rt, FOLDER) && is_refused_and_missing(&rt));
 }
 
 /// What a person is told.
@@ -203,6 +226,7 @@ const SENTENCES: &[(Trouble, &str)] = &[
         Trouble::NotADatabase,
         "the file is not a whole SQLite database",
     ),
+    (Trouble::Missing, "there is no such file, or it is empty"),
 ];
 
 fn says(alloc: Global, trouble: Trouble, sentence: &str) -> bool {
