@@ -8,9 +8,10 @@ The program is crates/incus_run/out/incus_run without `--program` (`bin/incus_ru
 1. `not read`: status 8, nothing on standard output, and all four commands on standard error.
 2. `questions`: `--help` and `--version` end with status 0.
 3. `make`: the bytes that `bench/stream.py instances` writes, which shares no code with the program.
-4. `drill`, `check`: 40 creations in memory and over a file, of which a project takes 32; what is kept of them, and that by then no share
-   is held. The shell `sqlite3` reads each row of the file, where it is installed.
-5. `run`: two runs over one file; and a file in a folder that is missing, which ends with status 6.
+4. `drill`, `check`: 40 creations in memory and over a database and a journal, of which a project takes 32; what is kept of them, and that
+   by then no share is held. The shell `sqlite3` reads each row of the file, where it is installed.
+5. `run`: two runs over one file of each kind; and a file in a folder that is missing, which ends with status 6, as does `check` of a
+   journal that is missing.
 6. a terminal as standard error: a drill tells there how many of its requests are answered, where few of the creations become instances and
    where all of them do; standard output is what it is without one, and `make` and `run` tell nothing.
 
@@ -32,7 +33,8 @@ COMMANDS = ("run [", "make SEED COUNT", "drill SEED COUNT", "check [")
 NOT_READ = [
     [], ["help"], ["-h"], ["--help", "run"], ["run", "--help"], ["runs"], ["run", "run"], ["run", "--"], ["run", "--steps", "x"], ["run", "--now"],
     ["run", "--now", "1", "--now=1"], ["run", "-s", "1"], ["run", "--now", "-1"], ["run", "--fail-host=0"], ["run", "--steps=01"],
-    ["run", "--db=rows", "--fail-keeper=1"], ["make"], ["make", "7"], ["make", "7", "10001"], ["make", "+7", "40"],
+    ["run", "--db=rows", "--fail-keeper=1"], ["run", "--journal=rows", "--fail-keeper=1"], ["run", "--db=rows", "--journal=other"],
+    ["drill", "7", "40", "--journal=a", "--db=b"], ["check", "--journal="], ["check", "--journal", "a", "--db", "a"], ["make"], ["make", "7"], ["make", "7", "10001"], ["make", "+7", "40"],
     ["drill", "7", "40", "--now=1"], ["drill", "7", "40", "--db="], ["check", "--db"], ["check", "check"], ["--db=rows", "check"],
 ]
 COUNTS = "projects 2\nprofiles 2\nnetworks 0\npools 1\nvolumes 0\ninstances 32\nsnapshots 0\n"
@@ -125,6 +127,9 @@ def drill(program, folder):
     need_run(program, ["drill", "7", "40", "--db", str(file)], DRILLED.encode())
     need_run(program, ["check", "--db", str(file)], CHECKED.encode())
     need_run(program, ["check", f"--db={file}"], CHECKED.encode())
+    journal = folder / "drill.journal"
+    need_run(program, ["drill", "7", "40", "--journal", str(journal)], DRILLED.encode())
+    need_run(program, ["check", f"--journal={journal}"], CHECKED.encode())
     return f"the file has the rows of the drill, {read_by_shell(file)}"
 
 
@@ -142,12 +147,15 @@ def read_by_shell(file):
 
 
 def two_runs(program, folder):
-    file = folder / "run.db"
-    for due in (b"HTTP/1.1 200 OK", b"HTTP/1.1 409 Conflict"):
-        status, written, said = run(program, ["run", "--db", str(file)], REQUEST)
-        need(status == 0 and written.startswith(due) and not said, f"status {status}, {written}, {said}; due: {due}")
-    status, written, said = run(program, ["run", "--db", str(folder / "none/run.db")], REQUEST)
-    need(status == 6 and not written and "none/run.db" in said, f"a missing folder: status {status}, {written}, {said}")
+    for word in ("--db", "--journal"):
+        for due in (b"HTTP/1.1 200 OK", b"HTTP/1.1 409 Conflict"):
+            status, written, said = run(program, ["run", word, str(folder / f"run{word}")], REQUEST)
+            need(status == 0 and written.startswith(due) and not said, f"{word}: status {status}, {written}, {said}; due: {due}")
+        status, written, said = run(program, ["run", word, str(folder / "none/run")], REQUEST)
+        need(status == 6 and not written and "none/run" in said, f"{word}, a missing folder: status {status}, {written}, {said}")
+    status, written, said = run(program, ["check", "--journal", str(folder / "none")])
+    need(status == 6 and not written and "there is no such file" in said, f"a missing journal: status {status}, {written}, {said}")
+    need(not (folder / "none").exists(), "check makes a journal")
     return "the second has the rows of the first; status 6 in a missing folder"
 
 

@@ -1,5 +1,6 @@
 pub mod Commands
 pub mod Numbers
+pub mod RowsPaths
 pub mod Values
 pub mod RunWords
 pub mod RunExamples

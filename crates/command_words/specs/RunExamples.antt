@@ -1,6 +1,7 @@
 -- Lists of words, each with what it says, or with nothing where it is not read.
 use Rattle.std.specs.Prelude.{◌≡◌, [], ◌∷◌, Some, None, codes}
 use Rattle.command_words.specs.RunWords.{no_setup, setup_of, words_of}
+use Rattle.command_words.specs.declared.rows_path.RowsPath.TheVariants.{Database, Journal}
 use Rattle.command_words.specs.declared.run_words.CommandWords.TheVariants.{Check, Drill, Make, Run}
 use Rattle.command_words.specs.declared.run_words.Pace.TheVariants.{All, Steps}
 use Rattle.command_words.specs.declared.run_words.RunWords.{RunWords}
@@ -34,6 +35,14 @@ pub record AreWorked : Type 0 where
   pub too_many : words_of (codes "make" ∷ codes "7" ∷ codes "10001" ∷ []) ≡ None
   -- failing calls of the keeper do not stand with a file, and those of the host do
   pub file_and_keeper : words_of (codes "run" ∷ codes "--db=f" ∷ codes "--fail-keeper=4" ∷ []) ≡ None
+  pub journal_and_keeper : words_of (codes "run" ∷ codes "--journal=f" ∷ codes "--fail-keeper=4" ∷ []) ≡ None
   pub file_and_host : setup_of (codes "run" ∷ codes "--db=f" ∷ codes "--fail-host" ∷ codes "2,3" ∷ [])
-      ≡ record { db = codes "f"; fail_host = 2 ∷ 3 ∷ []; fail_keeper = [] }
+      ≡ record { rows = Database (codes "f"); fail_host = 2 ∷ 3 ∷ []; fail_keeper = [] }
   pub no_file : setup_of (codes "run" ∷ codes "--db=" ∷ []) ≡ no_setup
+  -- a journal, and one beside a database
+  pub journal : setup_of (codes "check" ∷ codes "--journal" ∷ codes "f" ∷ [])
+      ≡ record { rows = Journal (codes "f"); fail_host = []; fail_keeper = [] }
+  pub two_files : words_of (codes "run" ∷ codes "--db=f" ∷ codes "--journal=g" ∷ []) ≡ None
+  pub drill_of_two : words_of (codes "drill" ∷ codes "7" ∷ codes "40" ∷ codes "--journal=g" ∷ codes "--db=f" ∷ []) ≡ None
+  pub check_of_two : words_of (codes "check" ∷ codes "--db=f" ∷ codes "--journal=f" ∷ []) ≡ None
+  pub no_journal : setup_of (codes "check" ∷ codes "--journal=" ∷ []) ≡ no_setup

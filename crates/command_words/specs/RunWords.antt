@@ -9,8 +9,11 @@ use Rattle.clap.specs.Simple.{new_shape}
 use Rattle.clap.specs.Words.{App, Row, Rule, Shape, first_of, subcommand_of}
 use Rattle.size_values.specs.Moments.{moment_limit}
 use Rattle.command_words.specs.Commands.{are_taken, command_of, option_of, positional_of}
-use Rattle.command_words.specs.Values.{are_call_numbers, boot_said, call_numbers_said, count_said, is_path, moment_said}
+use Rattle.command_words.specs.RowsPaths.{Taking, are_values, is_file, is_given, is_one_file, is_path, rows_path}
+use Rattle.command_words.specs.RowsPaths.{store_options}
+use Rattle.command_words.specs.Values.{are_call_numbers, boot_said, call_numbers_said, count_said, moment_said}
 use Rattle.command_words.specs.Values.{pace_said, seed_said}
+use Rattle.command_words.specs.declared.rows_path.RowsPath.TheVariants.{Memory}
 use Rattle.command_words.specs.declared.run_setup.Setup.{Setup}
 use Rattle.command_words.specs.declared.run_words.CommandWords.{CommandWords}
 use Rattle.command_words.specs.declared.run_words.CommandWords.TheVariants.{Check, Drill, Make, Run}
@@ -20,24 +23,17 @@ use Rattle.command_words.specs.declared.run_words.RunWords.{RunWords}
 
 -- ---- the commands
 
--- an option: its name, and whether a value is one that it takes
-abbrev pub Taking : Type 0
-Taking = List ℕ × (List ℕ → Bool)
-
 -- the options of `run`
 abbrev pub run_options : List Taking
 run_options =
     (codes "steps", λ value. is_some (pace_said value))
     ∷ (codes "db", is_path)
+    ∷ (codes "journal", is_path)
     ∷ (codes "fail-host", are_call_numbers)
     ∷ (codes "fail-keeper", are_call_numbers)
     ∷ (codes "now", λ value. is_some (moment_said value))
     ∷ (codes "boot", λ value. is_some (boot_said value))
     ∷ []
-
--- the options of `drill` and of `check`
-abbrev pub store_options : List Taking
-store_options = (codes "db", is_path) ∷ []
 
 -- the words after `make` and after `drill`
 abbrev pub stream_positionals : List Rule
@@ -82,14 +78,6 @@ parsed_command words = if are_taken run_program words then subcommand_of run_pro
 
 -- ---- what they say
 
--- whether each value that is given is one that its option takes
-abbrev pub are_values : List Taking → List Row → Bool
-are_values options given = list_all (λ option. option_map_or option.1 (first_of option.0 given) true) options
-
--- whether an option is given
-abbrev pub is_given : List ℕ → List Row → Bool
-is_given name given = is_some (first_of name given)
-
 -- what the options of `run` say of the run: the clock that is handed in is read, all steps are made, and the word that
 -- is handed in is that of the start, where they say nothing else
 abbrev pub run_words_in : List Row → RunWords
@@ -102,7 +90,8 @@ run_words_in given = record {
 -- `run`, where its options have values that they take, and no call of the keeper is to fail over a file
 abbrev pub run_command_words : List Row → Option CommandWords
 run_command_words given =
-    if are_values run_options given && not (is_given (codes "db") given && is_given (codes "fail-keeper") given)
+    if are_values run_options given && is_one_file given
+    && not (is_file given && is_given (codes "fail-keeper") given)
     then Some (Run (run_words_in given)) else None
 
 -- the seed of a stream of requests, and how many instances it makes
@@ -116,12 +105,13 @@ make_command_words given = option_map (λ stream. Make stream.0 stream.1) (strea
 
 abbrev pub drill_command_words : List Row → Option CommandWords
 drill_command_words given =
-    if are_values store_options given
+    if are_values store_options given && is_one_file given
     then option_map (λ stream. Drill stream.0 stream.1) (stream_numbers given)
     else None
 
 abbrev pub check_command_words : List Row → Option CommandWords
-check_command_words given = if are_values store_options given then Some Check else None
+check_command_words given =
+    if are_values store_options given && is_one_file given then Some Check else None
 
 -- what a command says, by its name
 abbrev pub words_of_command : List ℕ → List Row → Option CommandWords
@@ -175,17 +165,17 @@ AreInRange Check = Unit {0}
 abbrev pub failing_calls : List Row → List ℕ → List ℕ
 failing_calls given name = unwrap_or (option_and_then call_numbers_said (first_of name given)) []
 
--- the file and the failing calls that options say
+-- where rows are kept, and the failing calls, as options say
 abbrev pub setup_of_options : List Row → Setup
 setup_of_options given = record {
-  db = unwrap_or (first_of (codes "db") given) [];
+  rows = rows_path given;
   fail_host = failing_calls given (codes "fail-host");
   fail_keeper = failing_calls given (codes "fail-keeper");
 }
 
--- no file, and no failing calls
+-- rows in memory, and no failing calls
 abbrev pub no_setup : Setup
-no_setup = record { db = []; fail_host = []; fail_keeper = [] }
+no_setup = record { rows = Memory; fail_host = []; fail_keeper = [] }
 
 -- what the words say of the outside, and nothing where they are not read
 abbrev pub setup_of : List (List ℕ) → Setup

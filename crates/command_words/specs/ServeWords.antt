@@ -1,5 +1,5 @@
 -- The words of the command line: the options of the program that serves connections.
-use Rattle.std.specs.Prelude.{ℕ, ◌+◌, ◌==◌, ◌≤◌, Bool, true, false, not}
+use Rattle.std.specs.Prelude.{ℕ, ◌+◌, ◌≤◌, ◌&&◌, true}
 use Rattle.std.specs.Prelude.{if◌then◌else◌, List, [], ◌∷◌, length, Option, Some}
 use Rattle.std.specs.Prelude.{None, option_map, codes}
 use Rattle.std.specs.Option.{option_and_then, option_map_or, unwrap_or}
@@ -7,6 +7,9 @@ use Rattle.clap.specs.Simple.{new_shape}
 use Rattle.clap.specs.Words.{App, Row, Rule, Shape, first_of, matches_of}
 use Rattle.command_words.specs.Commands.{are_taken, option_of, required_option_of}
 use Rattle.command_words.specs.Numbers.{number_said}
+use Rattle.command_words.specs.RowsPaths.{are_values, is_one_file, rows_path, store_options}
+use Rattle.command_words.specs.declared.rows_path.RowsPath.{RowsPath}
+use Rattle.command_words.specs.declared.rows_path.RowsPath.TheVariants.{Memory}
 use Rattle.command_words.specs.declared.serve_setup.ServeSetup.{ServeSetup}
 use Rattle.command_words.specs.declared.serve_words.Options.{Options}
 use Rattle.command_words.specs.declared.serve_words.ServeWords.{ServeWords}
@@ -26,6 +29,7 @@ serve_options =
     ∷ option_of (codes "workers")
     ∷ option_of (codes "idle")
     ∷ option_of (codes "db")
+    ∷ option_of (codes "journal")
     ∷ []
 
 -- the program as `clap` reads it
@@ -58,10 +62,6 @@ idle_said value = number_said 1 3600 value
 abbrev pub workers_said : List ℕ → Option ℕ
 workers_said value = number_said 1 8 value
 
--- a path is any text but the empty one
-abbrev pub is_path : List ℕ → Bool
-is_path value = not (length value == 0)
-
 -- ---- what they say
 
 -- two workers, where the words say no number of them
@@ -91,10 +91,9 @@ option_numbers given =
     (idle_seconds given)) (worker_count given)) (at_once_count given)) (connection_count given))
     (option_and_then port_said (first_of (codes "port") given))
 
--- the same, where the path of a file is one too
+-- the same, where the path of a file is one too, and of one file at most
 abbrev pub options_from : List Row → Option Options
-options_from given =
-    if option_map_or is_path (first_of (codes "db") given) true then option_numbers given else None
+options_from given = if are_values store_options given && is_one_file given then option_numbers given else None
 
 -- what the words say, where they are read
 unfoldable pub options_of : List (List ℕ) → Option Options
@@ -109,20 +108,20 @@ serve_words_of words =
       workers = options.workers;
     }) (options_of words)
 
--- the path of the file that keeps the rows, and the empty text where they are kept in memory
-abbrev pub db_in : List (List ℕ) → List ℕ
-db_in words = unwrap_or (option_and_then (first_of (codes "db")) (parsed_options words)) []
+-- where the rows are kept
+abbrev pub rows_in : List (List ℕ) → RowsPath
+rows_in words = option_map_or rows_path (parsed_options words) Memory
 
 -- one ticket through the lock for each connection that is served at once, one for each worker, and one to close
-abbrev pub setup_with : Option Options → List ℕ → ServeSetup
-setup_with (Some options) db = record {
+abbrev pub setup_with : Option Options → RowsPath → ServeSetup
+setup_with (Some options) rows = record {
   port = options.port;
-  db = db;
+  rows = rows;
   idle = options.idle;
   tickets = options.at_once + options.workers + 1;
 }
-setup_with None db = record { port = 0; db = []; idle = 0; tickets = 0 }
+setup_with None rows = record { port = 0; rows = Memory; idle = 0; tickets = 0 }
 
--- what the words say of the outside: port 0, no file and no tickets where they are not read
+-- what the words say of the outside: port 0, rows in memory and no tickets where they are not read
 abbrev pub serve_setup_of : List (List ℕ) → ServeSetup
-serve_setup_of words = setup_with (options_of words) (db_in words)
+serve_setup_of words = setup_with (options_of words) (rows_in words)

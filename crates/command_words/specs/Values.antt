@@ -30,16 +30,12 @@ count_said value = number_said 0 10000 value
 abbrev pub call_number_said : List ℕ → Option ℕ
 call_number_said text = number_said 1 (2 ^ 64 - 1) text
 
--- ---- paces and paths
+-- ---- paces
 
 -- the pace that a value of `--steps` says: a number of steps up to 1,000,000, or all of them
 abbrev pub pace_said : List ℕ → Option Pace
 pace_said value =
     if bytes_eq value (codes "all") then Some All else option_map Steps (number_said 0 1000000 value)
-
--- a path is any text but the empty one
-abbrev pub is_path : List ℕ → Bool
-is_path value = not (length value == 0)
 
 -- ---- lists of calls
 

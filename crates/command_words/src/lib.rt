@@ -5,6 +5,7 @@ mod commands;
 mod help;
 mod numbers;
 mod reading;
+mod rows_path;
 mod run_laws;
 mod run_program;
 mod run_setup;
@@ -20,6 +21,7 @@ pub use commands::{with_command, with_option, with_positional, with_required_opt
 pub use help::{run_help, serve_help};
 pub use numbers::number_said;
 pub use reading::{parse_words, value_of};
+pub use rows_path::RowsPath;
 pub use run_laws::run_examples;
 pub use run_setup::{Setup, setup_of};
 pub use run_words::{CommandWords, Pace, RunWords, read_words};

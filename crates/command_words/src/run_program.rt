@@ -18,6 +18,7 @@ fn run_command<'a>(alloc: Global) -> Result<Command<'a>, NoMemory>
     let command = Command::new(alloc, "run");
     let command = with_option(alloc, command, "steps")?;
     let command = with_option(alloc, command, "db")?;
+    let command = with_option(alloc, command, "journal")?;
     let command = with_option(alloc, command, "fail-host")?;
     let command = with_option(alloc, command, "fail-keeper")?;
     let command = with_option(alloc, command, "now")?;
@@ -38,14 +39,16 @@ fn drill_command<'a>(alloc: Global) -> Result<Command<'a>, NoMemory>
     let command = Command::new(alloc, "drill");
     let command = with_positional(alloc, command, "seed")?;
     let command = with_positional(alloc, command, "count")?;
-    with_option(alloc, command, "db")
+    let command = with_option(alloc, command, "db")?;
+    with_option(alloc, command, "journal")
 }
 
 fn check_command<'a>(alloc: Global) -> Result<Command<'a>, NoMemory>
     ensures { IfOk result (HasShape check_command) }
 {
     let command = Command::new(alloc, "check");
-    with_option(alloc, command, "db")
+    let command = with_option(alloc, command, "db")?;
+    with_option(alloc, command, "journal")
 }
 
 /// The program above its commands. It takes no memory.

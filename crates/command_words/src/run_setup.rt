@@ -5,18 +5,18 @@ ghost use Rattle.clap.specs.Words.{found_of, rows_of, subcommand_rows_of};
 ghost use Rattle.command_words.specs.RunWords.{failing_calls, words_of_command, no_setup, setup_of_options, setup_of};
 
 use crate::reading::value_of;
+use crate::rows_path::{RowsPath, rows_path};
 use crate::run_program::parsed_command;
 use crate::run_values::call_numbers_said;
 use crate::run_words::command_words_of;
 use clap::ArgMatches;
-use size_values::{NoMemory, Seq, Text};
+use size_values::{NoMemory, Seq};
 use std::alloc::Global;
 
-/// The file that keeps the rows, or the empty text where they are kept in memory; and which calls of the host and of
-/// the keeper are to fail. Calls are numbered from 1.
+/// Where the rows are kept, and which calls of the host and of the keeper are to fail. Calls are numbered from 1.
 #[derive(Drop)]
 pub struct Setup {
-    pub db: Text,
+    pub rows: RowsPath,
     pub fail_host: Seq<u64>,
     pub fail_keeper: Seq<u64>,
 }
@@ -35,22 +35,22 @@ fn failing_calls(alloc: Global, given: &ArgMatches<'_>, name: &str) -> Result<Se
 fn setup_of_options(alloc: Global, given: &ArgMatches<'_>) -> Result<Setup, NoMemory>
     ensures { IfOk result (λ setup. setup ≡ setup_of_options (rows_of (found_of given.now))) }
 {
-    let db = Text::from_text(alloc, value_of(given, "db").unwrap_or(""))?;
+    let rows = rows_path(alloc, given)?;
     let fail_host = failing_calls(alloc, given, "fail-host")?;
     let fail_keeper = failing_calls(alloc, given, "fail-keeper")?;
     Ok(Setup {
-        db,
+        rows,
         fail_host,
         fail_keeper,
     })
 }
 
-/// No file, and no failing calls. It takes no memory.
+/// Rows in memory, and no failing calls. It takes no memory.
 fn no_setup(alloc: Global) -> Setup
     ensures { result ≡ no_setup }
 {
     Setup {
-        db: Text::new(alloc),
+        rows: RowsPath::Memory,
         fail_host: Seq::new(alloc),
         fail_keeper: Seq::new(alloc),
     }
@@ -85,8 +85,8 @@ fn setup_of_matches(alloc: Global, given: &Option<ArgMatches<'_>>) -> Result<Set
     }
 }
 
-/// The file that the words name in `--db`, and the calls that they list in `--fail-host` and `--fail-keeper`; no file
-/// and no calls where they are not read.
+/// The file that the words name in `--db` or `--journal`, and the calls that they list in `--fail-host` and
+/// `--fail-keeper`; no file and no calls where they are not read.
 #[tactic(auto, unfolding(crate::specs::RunWords::words_of))]
 pub fn setup_of(alloc: Global, words: &[String]) -> Result<Setup, NoMemory>
     ensures { IfOk result (λ setup. setup ≡ setup_of (map (λ w. string_bytes w) words.now)) }

@@ -5,7 +5,7 @@ ghost use Rattle.std.specs.List.{filter_map, list_all};
 ghost use Rattle.std.specs.Option.{unwrap_or};
 ghost use Rattle.size_values.specs.Moments.{moment_limit};
 ghost use Rattle.command_words.specs.Values.{are_call_numbers, boot_said, call_number_said};
-ghost use Rattle.command_words.specs.Values.{call_numbers_said, count_said, is_path};
+ghost use Rattle.command_words.specs.Values.{call_numbers_said, count_said};
 ghost use Rattle.command_words.specs.Values.{moment_said, pace_said, parts_of, seed_said};
 
 use crate::numbers::number_said;
@@ -66,13 +66,6 @@ pub(crate) fn count_said(value: &str) -> Option<u32>
         Some(count) => Some(count as u32),
         None => None,
     }
-}
-
-/// Whether a value may be the path of a file.
-pub(crate) fn is_path(value: &str) -> bool
-    ensures { result ≡ is_path value.now }
-{
-    !value.is_empty()
 }
 
 fn call_number_said(text: &str) -> Option<u64>

@@ -3,16 +3,17 @@ ghost use Rattle.std.specs.Prelude.{◌≡◌, ◌<◌, ◌≤◌, true, map, op
 ghost use Rattle.std.specs.Option.{option_and_then, option_map_or};
 ghost use Rattle.clap.specs.Words.{first_of, found_of, rows_of, subcommand_rows_of};
 ghost use Rattle.size_values.specs.Moments.{moment_limit};
-ghost use Rattle.command_words.specs.Values.{are_call_numbers, boot_said, is_path, moment_said, pace_said};
-ghost use Rattle.command_words.specs.RunWords.{AreInRange, are_values, check_command_words};
-ghost use Rattle.command_words.specs.RunWords.{words_of_command, drill_command_words, is_given, make_command_words};
-ghost use Rattle.command_words.specs.RunWords.{run_words_in, run_options};
-ghost use Rattle.command_words.specs.RunWords.{run_command_words, store_options, stream_numbers, words_of};
+ghost use Rattle.command_words.specs.RowsPaths.{are_values};
+ghost use Rattle.command_words.specs.Values.{are_call_numbers, boot_said, moment_said, pace_said};
+ghost use Rattle.command_words.specs.RunWords.{AreInRange, check_command_words, drill_command_words};
+ghost use Rattle.command_words.specs.RunWords.{make_command_words, run_command_words, run_options, run_words_in};
+ghost use Rattle.command_words.specs.RunWords.{stream_numbers, words_of, words_of_command};
 
 use crate::reading::value_of;
+use crate::rows_path::{are_store_values, is_file, is_given, is_one_file, takes_path};
 use crate::run_program::parsed_command;
 use crate::run_values::{
-    are_call_numbers, boot_said, count_said, is_path, moment_said, pace_said, seed_said,
+    are_call_numbers, boot_said, count_said, moment_said, pace_said, seed_said,
 };
 use clap::ArgMatches;
 use size_values::NoMemory;
@@ -59,15 +60,6 @@ fn takes_pace(value: Option<&str>) -> bool
     }
 }
 
-fn takes_path(value: Option<&str>) -> bool
-    ensures { result ≡ option_map_or is_path (option_map (λ v. v.now) value.entry) true }
-{
-    match value {
-        Some(value) => is_path(value),
-        None => true,
-    }
-}
-
 fn takes_calls(value: Option<&str>) -> bool
     ensures { result ≡ option_map_or are_call_numbers (option_map (λ v. v.now) value.entry) true }
 {
@@ -101,24 +93,11 @@ fn are_run_values(given: &ArgMatches<'_>) -> bool
 {
     takes_pace(value_of(given, "steps"))
         && takes_path(value_of(given, "db"))
+        && takes_path(value_of(given, "journal"))
         && takes_calls(value_of(given, "fail-host"))
         && takes_calls(value_of(given, "fail-keeper"))
         && takes_moment(value_of(given, "now"))
         && takes_boot(value_of(given, "boot"))
-}
-
-/// Whether the option `--db` of `drill` and `check` has a value that it takes.
-fn are_store_values(given: &ArgMatches<'_>) -> bool
-    ensures { result ≡ are_values store_options (rows_of (found_of given.now)) }
-{
-    takes_path(value_of(given, "db"))
-}
-
-/// Whether an option of this name is given.
-fn is_given(name: &str, given: &ArgMatches<'_>) -> bool
-    ensures { result ≡ is_given name.now (rows_of (found_of given.now)) }
-{
-    value_of(given, name).is_some()
 }
 
 /// The moment that `--now` says.
@@ -168,7 +147,10 @@ fn run_command_words(given: &ArgMatches<'_>) -> Option<CommandWords>
     ensures says { result ≡ run_command_words (rows_of (found_of given.now)) }
     ensures range { IfSome result AreInRange }
 {
-    if are_run_values(given) && !(is_given("db", given) && is_given("fail-keeper", given)) {
+    if are_run_values(given)
+        && is_one_file(given)
+        && !(is_file(given) && is_given("fail-keeper", given))
+    {
         Some(CommandWords::Run(run_words_in(given)))
     } else {
         None
@@ -199,7 +181,7 @@ fn drill_command_words(given: &ArgMatches<'_>) -> Option<CommandWords>
     ensures says { result ≡ drill_command_words (rows_of (found_of given.now)) }
     ensures range { IfSome result AreInRange }
 {
-    if !are_store_values(given) {
+    if !(are_store_values(given) && is_one_file(given)) {
         return None;
     }
     match stream_numbers(given) {
@@ -212,7 +194,7 @@ fn check_command_words(given: &ArgMatches<'_>) -> Option<CommandWords>
     ensures says { result ≡ check_command_words (rows_of (found_of given.now)) }
     ensures range { IfSome result AreInRange }
 {
-    if are_store_values(given) {
+    if are_store_values(given) && is_one_file(given) {
         Some(CommandWords::Check)
     } else {
         None
@@ -262,9 +244,9 @@ fn command_words_in(given: &Option<ArgMatches<'_>>) -> Option<CommandWords>
 }
 
 /// What the words say, where they are read: a command with its numbers, and its options after it in any order, each at
-/// most once, as `--name VALUE` or `--name=VALUE`. `run` has `--steps`, `--db`, `--fail-host`, `--fail-keeper`, `--now`
-/// and `--boot`, of which `--db` and `--fail-keeper` do not stand together; `make SEED COUNT` has none; `drill SEED
-/// COUNT` and `check` have `--db`.
+/// most once, as `--name VALUE` or `--name=VALUE`. `run` has `--steps`, `--db`, `--journal`, `--fail-host`,
+/// `--fail-keeper`, `--now` and `--boot`; `make SEED COUNT` has none; `drill SEED COUNT` and `check` have `--db` and
+/// `--journal`. Of `--db`, `--journal` and `--fail-keeper` no two stand together.
 #[tactic(auto, unfolding(crate::specs::RunWords::words_of))]
 pub fn read_words(alloc: Global, words: &[String]) -> Result<Option<CommandWords>, NoMemory>
     ensures says { IfOk result (λ said. said ≡ words_of (map (λ w. string_bytes w) words.now)) }

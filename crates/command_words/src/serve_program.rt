@@ -28,7 +28,8 @@ fn program<'a>(alloc: Global) -> Result<Command<'a>, NoMemory>
     let program = with_option(alloc, program, "at-once")?;
     let program = with_option(alloc, program, "workers")?;
     let program = with_option(alloc, program, "idle")?;
-    with_option(alloc, program, "db")
+    let program = with_option(alloc, program, "db")?;
+    with_option(alloc, program, "journal")
 }
 
 /// What the words give to the options.

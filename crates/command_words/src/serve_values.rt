@@ -1,9 +1,7 @@
 //! What the values of options say.
-ghost use Rattle.std.specs.Prelude.{◌≡◌, ◌≤◌, option_map, true, IfSome};
-ghost use Rattle.std.specs.Option.{option_map_or};
+ghost use Rattle.std.specs.Prelude.{◌≡◌, ◌≤◌, IfSome};
 ghost use Rattle.command_words.specs.Numbers.{number_said};
-ghost use Rattle.command_words.specs.ServeWords.{at_once_said, connections_said, idle_said, is_path, port_said};
-ghost use Rattle.command_words.specs.ServeWords.{workers_said};
+ghost use Rattle.command_words.specs.ServeWords.{at_once_said, connections_said, idle_said, port_said, workers_said};
 
 use crate::numbers::number_said;
 
@@ -69,14 +67,4 @@ pub(crate) fn workers_said(value: &str) -> Option<u32>
     ensures few { IfSome result (λ number. number ≤ 8) }
 {
     small_said(MOST_WORKERS, value)
-}
-
-/// Whether the option `--db` has a value that may be the path of a file, if it is given.
-pub(crate) fn takes_path(value: Option<&str>) -> bool
-    ensures { result ≡ option_map_or is_path (option_map (λ v. v.now) value.entry) true }
-{
-    match value {
-        Some(value) => !value.is_empty(),
-        None => true,
-    }
 }

@@ -6,10 +6,9 @@ ghost use Rattle.command_words.specs.ServeWords.{at_once_count, connection_count
 ghost use Rattle.command_words.specs.ServeWords.{options_from, serve_words_of, worker_count};
 
 use crate::reading::value_of;
+use crate::rows_path::{are_store_values, is_one_file};
 use crate::serve_program::parsed_options;
-use crate::serve_values::{
-    at_once_said, connections_said, idle_said, port_said, takes_path, workers_said,
-};
+use crate::serve_values::{at_once_said, connections_said, idle_said, port_said, workers_said};
 use clap::ArgMatches;
 use size_values::NoMemory;
 use std::alloc::Global;
@@ -104,7 +103,7 @@ fn options_from(given: &ArgMatches<'_>) -> Option<Options>
     ensures says { result ≡ options_from (rows_of (found_of given.now)) }
     ensures few { IfSome result (λ o. (o.at_once ≤ 4096) × (o.workers ≤ 8)) }
 {
-    if takes_path(value_of(given, "db")) {
+    if are_store_values(given) && is_one_file(given) {
         option_numbers(given)
     } else {
         None
@@ -122,8 +121,9 @@ pub(crate) fn options_of_matches(given: &Option<ArgMatches<'_>>) -> Option<Optio
     }
 }
 
-/// What the words say, where they are read: the options `--port`, `--connections`, `--at-once`, `--workers`, `--idle` and
-/// `--db` in any order, each at most once, as `--name VALUE` or `--name=VALUE`. The first has to be given.
+/// What the words say, where they are read: the options `--port`, `--connections`, `--at-once`, `--workers`, `--idle`,
+/// `--db` and `--journal` in any order, each at most once, as `--name VALUE` or `--name=VALUE`. The first has to be given,
+/// and the last two do not stand together.
 #[tactic(auto, unfolding(crate::specs::ServeWords::options_of))]
 pub fn read_serve_words(alloc: Global, words: &[String]) -> Result<Option<ServeWords>, NoMemory>
     ensures says { IfOk result (λ said. said ≡ serve_words_of (map (λ w. string_bytes w) words.now)) }

@@ -1,16 +1,14 @@
-ghost use Rattle.std.specs.Prelude.{◌≡◌, ◌+◌, ◌≤◌, length, true, OnOk, IfSome};
+ghost use Rattle.std.specs.Prelude.{◌≡◌, ◌+◌, ◌≤◌, length, min, true, OnOk, IfSome};
 ghost use Rattle.std.specs.Bool.{OnTrue};
 ghost use Rattle.disk_model.specs.Disk.{disk_limit, CountsFailed, WritesNothing, Follows, Torn, Elapses};
 ghost use Rattle.size_values.specs.CallCounts.{CountsFailure};
+ghost use Rattle.size_values.specs.Calls.{last_number};
 ghost use Rattle.file_disk.specs.Silent.{silent_disk};
 
 use disk_model::{Disk, DiskFailed};
 use size_values::Or;
 use std::fs::File;
 use std::os::unix::fs::FileExt;
-
-/// The first bytes of the file of a journal: its name and version.
-pub const HEADER: [u8; 16] = *b"incus journal 1\n";
 
 /// The place in the file at which the disk begins.
 const START: u64 = 16;
@@ -29,6 +27,13 @@ impl FileDisk {
     /// The disk in a file, which begins with the header and is locked.
     pub(crate) fn of(file: File) -> FileDisk {
         FileDisk { file, faults: 0 }
+    }
+
+    /// The byte of the file at which a byte of the disk stands.
+    pub fn place_in_file(place: u64) -> u64
+        ensures { result ≡ min (16 + place) last_number }
+    {
+        START.saturating_add(place)
     }
 
     /// Counts a failure, where the call was not done.

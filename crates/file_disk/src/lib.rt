@@ -3,9 +3,10 @@
 #![tactic(auto)]
 
 mod disk;
+mod header;
 mod opening;
 mod refusal;
 
 pub use disk::FileDisk;
-pub use opening::open_journal;
+pub use opening::{open_journal, open_standing_journal};
 pub use refusal::FileRefused;

@@ -1,5 +1,6 @@
 //! How the file of a journal is opened, and made where there is none.
-use crate::disk::{FileDisk, HEADER};
+use crate::disk::FileDisk;
+use crate::header::{HEADER, is_begun, judge};
 use crate::refusal::FileRefused;
 use size_values::Or;
 use std::fs;
@@ -7,23 +8,25 @@ use std::fs::{File, TryLockError};
 use std::io::ErrorKind;
 use std::os::unix::fs::{FileExt, OpenOptionsExt};
 
-/// The bytes of a header before its version.
-const NAME_LEN: usize = 14;
-
 /// What stands at a path.
 #[derive(Clone, Copy, PartialEq, Eq)]
 enum Found {
     Nothing,
+    EmptyFile,
     File,
+    /// A folder, a device, or another thing that is no file.
+    Other,
     Unknown,
 }
 
-/// What stands at a path. An empty file is nothing.
+/// What stands at a path.
 fn found_at(rt: &HostRuntime, path: &str) -> Found {
     match fs::metadata(rt, path) {
         Ok(metadata) => {
-            if metadata.len() == 0 {
-                Found::Nothing
+            if !metadata.is_file() {
+                Found::Other
+            } else if metadata.len() == 0 {
+                Found::EmptyFile
             } else {
                 Found::File
             }
@@ -47,17 +50,6 @@ fn lock(file: &File) -> Result<(), FileRefused> {
         Err(TryLockError::WouldBlock) => Err(FileRefused::InUse),
         Err(TryLockError::Error(_)) => Err(FileRefused::Failed),
     }
-}
-
-/// Judges the first bytes of a file.
-fn judge(header: &[u8; 16]) -> Result<(), FileRefused> {
-    if *header == HEADER {
-        return Ok(());
-    }
-    if header[..NAME_LEN] == HEADER[..NAME_LEN] && header[NAME_LEN].is_ascii_digit() {
-        return Err(FileRefused::NewerVersion);
-    }
-    Err(FileRefused::NotAJournal)
 }
 
 /// Reads the first bytes of a file, and judges them. A file that is shorter than a header is no journal.
@@ -87,10 +79,24 @@ fn open_there(rt: &HostRuntime, path: &str) -> Result<FileDisk, FileRefused> {
     Ok(FileDisk::of(file))
 }
 
+/// Whether a file is empty, or what is left of a journal that was being made.
+fn was_begun(file: &File) -> bool {
+    let mut bytes = [0; 17];
+    let Ok(metadata) = file.metadata() else {
+        return false;
+    };
+    let len = metadata.len();
+    if len > 17 {
+        return false;
+    }
+    let bytes = &mut bytes[..len as usize];
+    file.read_exact_at(bytes, 0).is_ok() && is_begun(bytes)
+}
+
 /// Writes the header and the first gate, which is closed, and syncs.
 fn fill(file: &File) -> bool {
     file.set_len(0).is_ok()
-        && file.write_all_at(&HEADER, 0).is_ok()
+        && file.write_all_at(HEADER, 0).is_ok()
         && file.write_all_at(&[0], 16).is_ok()
         && file.sync_all().is_ok()
 }
@@ -109,7 +115,7 @@ fn sync_folder(rt: &HostRuntime, path: &str) -> bool {
 }
 
 /// Makes the file under another name, locks it, and gives it its own name once it is whole and on the disk.
-fn make(rt: &HostRuntime, path: &str, new: &str) -> Result<FileDisk, FileRefused> {
+fn make_as(rt: &HostRuntime, path: &str, new: &str) -> Result<FileDisk, FileRefused> {
     let opened = File::options()
         .read(true)
         .write(true)
@@ -121,8 +127,11 @@ fn make(rt: &HostRuntime, path: &str, new: &str) -> Result<FileDisk, FileRefused
     };
     lock(&file)?;
     // Another program may have made the journal since: then this is its file, under its own name by now.
-    if found_at(rt, path) != Found::Nothing {
+    if !matches!(found_at(rt, path), Found::Nothing | Found::EmptyFile) {
         return Err(FileRefused::InUse);
+    }
+    if !was_begun(&file) {
+        return Err(FileRefused::NewNameTaken);
     }
     if fill(&file) && fs::rename(rt, new, path).is_ok() && sync_folder(rt, path) {
         Ok(FileDisk::of(file))
@@ -131,15 +140,31 @@ fn make(rt: &HostRuntime, path: &str, new: &str) -> Result<FileDisk, FileRefused
     }
 }
 
+fn make(rt: &HostRuntime, path: &str) -> Result<FileDisk, Or<FileRefused>> {
+    match format!(in rt.alloc(); "{path}.new") {
+        Ok(new) => make_as(rt, path, &new).map_err(Or::Why),
+        Err(_) => Err(Or::NoMemory),
+    }
+}
+
 /// Opens the journal at a path, or makes it where nothing or an empty file stands there. A file that is refused is as it
-/// was.
+/// was. Where it was to be made and that failed, an empty journal may stand there, and what is left of one under its name
+/// with `.new` behind it, which the next call takes up.
 pub fn open_journal(rt: &HostRuntime, path: &str) -> Result<FileDisk, Or<FileRefused>> {
     match found_at(rt, path) {
         Found::File => open_there(rt, path).map_err(Or::Why),
+        Found::Nothing | Found::EmptyFile => make(rt, path),
+        Found::Other => Err(Or::Why(FileRefused::NotAJournal)),
         Found::Unknown => Err(Or::Why(FileRefused::Failed)),
-        Found::Nothing => match format!(in rt.alloc(); "{path}.new") {
-            Ok(new) => make(rt, path, &new).map_err(Or::Why),
-            Err(_) => Err(Or::NoMemory),
-        },
+    }
+}
+
+/// Opens the journal at a path, where one stands there, and makes none. A file that is refused is as it was.
+pub fn open_standing_journal(rt: &HostRuntime, path: &str) -> Result<FileDisk, FileRefused> {
+    match found_at(rt, path) {
+        Found::File => open_there(rt, path),
+        Found::Nothing | Found::EmptyFile => Err(FileRefused::Missing),
+        Found::Other => Err(FileRefused::NotAJournal),
+        Found::Unknown => Err(FileRefused::Failed),
     }
 }

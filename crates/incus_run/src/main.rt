@@ -12,11 +12,11 @@ mod requests;
 use crate::clock::WatchedClock;
 use crate::host::WatchedHost;
 use crate::progress::Progress;
-use crate::requests::drill_requests;
+use crate::requests::{drill_requests, makes_rows};
 use command_words::{run_help, setup_of};
 use host_model::ModelHost;
 use http_front::{Clock, ReaderSource, SystemClock, WriterSink};
-use program_start::{Question, RowsKeeper, StartFault, answer, fault_of, tell, tell_why, words_of};
+use program_start::{Question, RowsKeeper, StartFault, answer, end_rows, fault_of, tell, words_of};
 use serial_run::run_main;
 use size_values::Seq;
 use std::io::IsTerminal;
@@ -39,18 +39,21 @@ fn requests_to_tell(rt: HostRuntime, words: &[String]) -> Option<u64> {
 }
 
 /// All that the program does: it answers a question, or does what the words say. Standard error tells why the rows of a
-/// file were not opened.
+/// file were not opened. At the end a file that was opened holds all rows by itself.
 fn run(rt: HostRuntime, words: &[String]) -> u8 {
     if let Some(question) = Question::of(words) {
         answer(rt, question, run_help(), VERSION);
         return 0;
     }
+    let Ok(is_made) = makes_rows(rt.alloc(), words) else {
+        return StartFault::NoMemory.status();
+    };
     let Ok(setup) = setup_of(rt.alloc(), words) else {
         return StartFault::NoMemory.status();
     };
-    let keeper = RowsKeeper::at(rt, setup.db, setup.fail_keeper);
+    let keeper = RowsKeeper::at(rt, setup.rows, setup.fail_keeper, is_made);
     let (status, mut keeper) = run_over(rt, words, setup.fail_host, keeper);
-    tell_why(rt, PROGRAM, status, &mut keeper);
+    end_rows(rt, PROGRAM, status, &mut keeper);
     drop(keeper);
     status
 }

@@ -5,36 +5,36 @@ ghost use Rattle.command_words.specs.ServeWords.{serve_setup_of};
 use crate::listening::{Listening, serve_over};
 use crate::telling::PROGRAM;
 use crate::told_keeper::ToldKeeper;
-use command_words::serve_setup_of;
-use program_start::{RowsKeeper, StartFault, tell_why};
-use size_values::{Seq, Text};
+use command_words::{RowsPath, serve_setup_of};
+use program_start::{RowsKeeper, StartFault, end_rows};
+use size_values::Seq;
 use std::net::{Net, TcpListener, TcpStream};
 use std::sync::Wait;
 use std::thread::Threads;
 use std::time;
 
-/// The exit status of a server over the rows at this path. Standard error tells why they were not opened, and when they
-/// are not kept.
+/// The exit status of a server over the rows that are kept there. Standard error tells why they were not opened, and when
+/// they are not kept.
 fn serve_rows<T>(
     rt: HostRuntime,
     system: T,
     words: &[String],
     listening: Listening,
-    path: Text,
+    path: RowsPath,
 ) -> u8
 where
     T: Net<Listener = TcpListener, Stream = TcpStream> + Threads + Wait + time::Clock,
     T: Copy + Drop + Send + Sync + 'static,
     requires { listening.tickets ≡ (serve_setup_of (map (λ w. string_bytes w) words.now)).tickets }
 {
-    let keeper = ToldKeeper::over(rt, RowsKeeper::at(rt, path, Seq::new(rt.alloc())));
+    let keeper = RowsKeeper::at(rt, path, Seq::new(rt.alloc()), true);
+    let keeper = ToldKeeper::over(rt, keeper);
     let (status, back) = serve_over(rt, system, words, listening, keeper);
-    let Some(keeper) = back else {
-        return status;
-    };
-    let mut keeper = keeper.into_keeper();
-    tell_why(rt, PROGRAM, status, &mut keeper);
-    drop(keeper);
+    if let Some(keeper) = back {
+        let mut keeper = keeper.into_keeper();
+        end_rows(rt, PROGRAM, status, &mut keeper);
+        drop(keeper);
+    }
     status
 }
 
@@ -52,10 +52,10 @@ where
         idle: setup.idle,
         tickets: setup.tickets,
     };
-    let db = setup.db;
+    let rows = setup.rows;
     if listening.port == 0 {
         StartFault::Words.status()
     } else {
-        serve_rows(rt, system, words, listening, db)
+        serve_rows(rt, system, words, listening, rows)
     }
 }

@@ -119,7 +119,7 @@ module _ (old new : DiskState) (now : (left : List ℕ) → old.left_since old.m
         let second = rest.stands base doubts first.stands in
         record { any_moment = told_joined old new last (IsLeft base doubts) (ap is_some quiet.contents) first.any_moment second.any_moment; stands = second.stands };
     first = λ commits is. told_joined old new last (λ left. Chain left commits) (ap is_some quiet.contents) (quiet_chain before commits is) (rest.first commits (is.0, λ left may. is.1 left (quiet.crash left may)));
-    told = rest.contents ∙ ap (entries_told before) quiet.contents;
+    told = rest.told ∙ ap (entries_told before) quiet.contents;
     found = rest.found;
     sound = λ is. rest.sound (quiet_sound before is);
   }
@@ -142,7 +142,7 @@ module _ (old mid : DiskState) (before after : Gate) (sound : IsSound old before
         record { any_moment = told_joined old mid last (IsLeft base doubts) tells first.any_moment second.any_moment; stands = second.stands };
     first = λ commits is. subst (λ (d : DiskState). LeavesTold d last (λ left. Chain left commits)) (sym (same is.0))
         (rest.first commits (unread is.0, subst (λ (d : DiskState). (left : List ℕ) → d.may_leave left → Chain left commits) (same is.0) is.1));
-    told = rest.contents ∙ mended_told old mid before after sound mend same unread tells;
+    told = rest.told ∙ mended_told old mid before after sound mend same unread tells;
     found = rest.found;
     sound = λ is. rest.sound (mended_sound old mid before after is mend unread);
   }
@@ -165,7 +165,7 @@ module _ (old mid : DiskState) (before after : Gate) (sound : IsSound old before
 
 pub loads_found : {E : Type 0} (old new : DiskState) (before gate : Gate) (result : Result (List Entry) E) → Loads old new before gate result → IfOk result (λ found. IfSome (entries_told before old.contents) (λ kept. found ≡ kept))
 loads_found old new before gate (Err why) is = tt
-loads_found old new before gate (Ok entries) is = subst (λ (o : Option (List Entry)). IfSome o (λ kept. entries ≡ kept)) is.contents (go new.contents refl is.found)
+loads_found old new before gate (Ok entries) is = subst (λ (o : Option (List Entry)). IfSome o (λ kept. entries ≡ kept)) is.told (go new.contents refl is.found)
   where
     go : (o : Option (List ℕ)) → new.contents ≡ o → IfSome o (λ file. (commits : List Commit) × Chain file commits × (entries ≡ rows_of commits) × Stands new gate commits [])
         → IfSome (entries_told gate o) (λ kept. entries ≡ kept)

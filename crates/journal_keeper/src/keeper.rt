@@ -85,7 +85,7 @@ impl<D: Disk> JournalKeeper<D> {
 
 impl<D: Disk> Keeper for JournalKeeper<D> {
     ghost store = { λ k. record {
-      told = entries_told k.gate (D.disk k.disk).contents;
+      contents = entries_told k.gate (D.disk k.disk).contents;
       calls = k.calls;
       failures = faults_of (D.disk k.disk).failures k.bad_loads k.refused;
     } };

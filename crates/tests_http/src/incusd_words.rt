@@ -1,59 +1,71 @@
 //! Lists of words of the program that serves connections, each with what it says. Each word stands behind a `|`.
-use crate::words::owned;
+use crate::words::Kept::{Database, Journal, Memory};
+use crate::words::{Kept, is_at, owned};
 use command_words::{ServeWords, read_serve_words, serve_setup_of};
 use std::alloc::Global;
 
 /// What a list of words says: the port, how many connections there are, how many at once, how many workers, after how many
-/// idle seconds a connection is closed, and the file.
+/// idle seconds a connection is closed, and where rows are kept.
 #[derive(Clone, Copy)]
-struct Serves(u32, Option<u32>, u32, u32, u32, &'static str);
+struct Serves(u32, Option<u32>, u32, u32, u32, Kept);
 
 /// Lists of words, and what they say.
 const SAID: &[(&str, Serves)] = &[
-    ("|--port=8443", Serves(8443, None, 512, 2, 60, "")),
+    ("|--port=8443", Serves(8443, None, 512, 2, 60, Memory)),
     (
         "|--port|8443|--connections|4",
-        Serves(8443, Some(4), 512, 2, 60, ""),
+        Serves(8443, Some(4), 512, 2, 60, Memory),
     ),
     (
         "|--port=8443|--connections=4",
-        Serves(8443, Some(4), 512, 2, 60, ""),
+        Serves(8443, Some(4), 512, 2, 60, Memory),
     ),
     (
         "|--connections=4|--port|8443",
-        Serves(8443, Some(4), 512, 2, 60, ""),
+        Serves(8443, Some(4), 512, 2, 60, Memory),
     ),
     (
         "|--workers|1|--connections=4|--port=8443",
-        Serves(8443, Some(4), 512, 1, 60, ""),
+        Serves(8443, Some(4), 512, 1, 60, Memory),
     ),
     (
         "|--port=65535|--connections=1000000|--workers=8",
-        Serves(65_535, Some(1_000_000), 512, 8, 60, ""),
+        Serves(65_535, Some(1_000_000), 512, 8, 60, Memory),
     ),
     (
         "|--port=1|--connections=1|--db|rows",
-        Serves(1, Some(1), 512, 2, 60, "rows"),
+        Serves(1, Some(1), 512, 2, 60, Database("rows")),
     ),
     (
         "|--db=-x|--port=8443|--connections=4",
-        Serves(8443, Some(4), 512, 2, 60, "-x"),
+        Serves(8443, Some(4), 512, 2, 60, Database("-x")),
     ),
     (
         "|--db|rows|--workers|3|--connections|4|--port|8443",
-        Serves(8443, Some(4), 512, 3, 60, "rows"),
+        Serves(8443, Some(4), 512, 3, 60, Database("rows")),
     ),
     (
         "|--workers=3|--port=8443|--db=rows|--connections=4",
-        Serves(8443, Some(4), 512, 3, 60, "rows"),
+        Serves(8443, Some(4), 512, 3, 60, Database("rows")),
     ),
-    ("|--port=1|--at-once=1", Serves(1, None, 1, 2, 60, "")),
+    (
+        "|--port=1|--journal|rows",
+        Serves(1, None, 512, 2, 60, Journal("rows")),
+    ),
+    (
+        "|--journal=-x|--idle=1|--port=1",
+        Serves(1, None, 512, 2, 1, Journal("-x")),
+    ),
+    ("|--port=1|--at-once=1", Serves(1, None, 1, 2, 60, Memory)),
     (
         "|--port=1|--at-once|4096",
-        Serves(1, None, 4_096, 2, 60, ""),
+        Serves(1, None, 4_096, 2, 60, Memory),
     ),
-    ("|--idle=1|--port=1", Serves(1, None, 512, 2, 1, "")),
-    ("|--port=1|--idle|3600", Serves(1, None, 512, 2, 3_600, "")),
+    ("|--idle=1|--port=1", Serves(1, None, 512, 2, 1, Memory)),
+    (
+        "|--port=1|--idle|3600",
+        Serves(1, None, 512, 2, 3_600, Memory),
+    ),
 ];
 
 /// Lists of words that are not read.
@@ -78,6 +90,12 @@ const NOT_READ: &[&str] = &[
     "|--port=8443|--connections=4|--connections|4",
     "|--port=8443|--connections=4|--workers=2|--workers=2",
     "|--port=8443|--connections=4|--db=rows|--db=rows",
+    "|--port=8443|--journal=",
+    "|--port=8443|--journal",
+    "|--port=8443|--journal|-x",
+    "|--port=8443|--journal=rows|--journal=rows",
+    "|--port=8443|--db=rows|--journal=other",
+    "|--journal=rows|--db=rows|--port=8443",
     "|--connections=4|--port",
     "|--port=8443|--connections",
     "|--port=8443|--connections=",
@@ -122,12 +140,19 @@ fn are_read(alloc: Global, words: &[String], says: Option<ServeWords>) -> bool {
 }
 
 /// Whether words say this of the outside.
-fn are_set(alloc: Global, words: &[String], port: u32, db: &str, idle: u32, tickets: u32) -> bool {
+fn are_set(
+    alloc: Global,
+    words: &[String],
+    port: u32,
+    kept: Kept,
+    idle: u32,
+    tickets: u32,
+) -> bool {
     let Ok(setup) = serve_setup_of(alloc, words) else {
         return false;
     };
     let are = (setup.port == port)
-        & (setup.db.view() == db)
+        & is_at(&setup.rows, kept)
         & (setup.idle == idle)
         & (setup.tickets == tickets);
     drop(setup);
@@ -140,20 +165,20 @@ fn say(
     words: &str,
     says: Option<ServeWords>,
     port: u32,
-    db: &str,
+    kept: Kept,
     idle: u32,
     tickets: u32,
 ) -> bool {
     let Ok(words) = owned(alloc, words) else {
         return false;
     };
-    let say = are_read(alloc, &words, says) & are_set(alloc, &words, port, db, idle, tickets);
+    let say = are_read(alloc, &words, says) & are_set(alloc, &words, port, kept, idle, tickets);
     drop(words);
     say
 }
 
 fn are_said(alloc: Global, words: &str, says: Serves) -> bool {
-    let Serves(port, connections, at_once, workers, idle, db) = says;
+    let Serves(port, connections, at_once, workers, idle, kept) = says;
     let numbers = ServeWords {
         connections,
         at_once,
@@ -161,7 +186,7 @@ fn are_said(alloc: Global, words: &str, says: Serves) -> bool {
     };
     // One ticket for each connection at once and each worker, and one to close; these numbers are small.
     let tickets = at_once.saturating_add(workers).saturating_add(1);
-    say(alloc, words, Some(numbers), port, db, idle, tickets)
+    say(alloc, words, Some(numbers), port, kept, idle, tickets)
 }
 
 #[test]
@@ -170,6 +195,6 @@ fn words_say_how_to_serve(rt: HostRuntime) {
         assert!(rt; are_said(rt.alloc(), words, *says), "{words}");
     }
     for words in NOT_READ {
-        assert!(rt; say(rt.alloc(), words, None, 0, "", 0, 0), "{words}");
+        assert!(rt; say(rt.alloc(), words, None, 0, Memory, 0, 0), "{words}");
     }
 }

@@ -1,6 +1,7 @@
 //! Lists of words, each with what it says. Each word stands behind a `|`.
 use crate::tables::Want::{Check, Drill, Full, Make, Plain, Run};
-use crate::words::owned;
+use crate::words::Kept::{Database, Journal, Memory};
+use crate::words::{Kept, is_at, owned};
 use command_words::{CommandWords, Pace, RunWords, read_words, setup_of};
 use std::alloc::Global;
 
@@ -9,15 +10,15 @@ use std::alloc::Global;
 enum Want {
     /// The moment, the pace and the word of the start of a run that names no file and lists no calls.
     Run(Option<u64>, Pace, Option<u64>),
-    /// The file of a run, and which calls of the host and of the keeper fail, and nothing else of it.
-    Plain(&'static str, &'static [u64], &'static [u64]),
+    /// Where the rows of a run are kept, and which calls of the host and of the keeper fail, and nothing else of it.
+    Plain(Kept, &'static [u64], &'static [u64]),
     /// The same of a run with the moment 5, 3 steps and the word 9.
-    Full(&'static str, &'static [u64], &'static [u64]),
-    /// A seed, a number of requests, and a file.
-    Make(u64, u32, &'static str),
-    Drill(u64, u32, &'static str),
-    /// A file.
-    Check(&'static str),
+    Full(Kept, &'static [u64], &'static [u64]),
+    /// A seed, a number of requests, and where rows are kept.
+    Make(u64, u32, Kept),
+    Drill(u64, u32, Kept),
+    /// Where rows are kept.
+    Check(Kept),
 }
 
 /// The numbers from 1 to 64.
@@ -71,87 +72,108 @@ const SAID: &[(&str, Want)] = &[
         Run(Some(5), Pace::All, Some(9)),
     ),
     // Other commands, and the file that they name.
-    ("|make|7|40", Make(7, 40, "")),
-    ("|make|0|0", Make(0, 0, "")),
+    ("|make|7|40", Make(7, 40, Memory)),
+    ("|make|0|0", Make(0, 0, Memory)),
     (
         "|make|18446744073709551615|10000",
-        Make(u64::MAX, 10_000, ""),
+        Make(u64::MAX, 10_000, Memory),
     ),
-    ("|drill|7|40", Drill(7, 40, "")),
-    ("|drill|7|40|--db|rows", Drill(7, 40, "rows")),
-    ("|drill|7|--db=rows|40", Drill(7, 40, "rows")),
-    ("|drill|--db|rows|7|40", Drill(7, 40, "rows")),
-    ("|check", Check("")),
-    ("|check|--db|rows", Check("rows")),
-    ("|check|--db=rows", Check("rows")),
-    ("|check|--db=-x", Check("-x")),
-    ("|drill|--db=-x|7|40", Drill(7, 40, "-x")),
+    ("|drill|7|40", Drill(7, 40, Memory)),
+    ("|drill|7|40|--db|rows", Drill(7, 40, Database("rows"))),
+    ("|drill|7|--db=rows|40", Drill(7, 40, Database("rows"))),
+    ("|drill|--db|rows|7|40", Drill(7, 40, Database("rows"))),
+    ("|check", Check(Memory)),
+    ("|check|--db|rows", Check(Database("rows"))),
+    ("|check|--db=rows", Check(Database("rows"))),
+    ("|check|--db=-x", Check(Database("-x"))),
+    ("|drill|--db=-x|7|40", Drill(7, 40, Database("-x"))),
+    ("|drill|7|40|--journal|rows", Drill(7, 40, Journal("rows"))),
+    ("|drill|7|--journal=-x|40", Drill(7, 40, Journal("-x"))),
+    ("|check|--journal|rows", Check(Journal("rows"))),
+    ("|check|--journal=rows", Check(Journal("rows"))),
     // Files that `run` names. A value that begins with `-` stands after `=`.
-    ("|run|--db|rows", Plain("rows", &[], &[])),
-    ("|run|--db=rows", Plain("rows", &[], &[])),
-    ("|run|--db|run", Plain("run", &[], &[])),
-    ("|run|--db|a b/c=d", Plain("a b/c=d", &[], &[])),
-    ("|run|--db=a=b", Plain("a=b", &[], &[])),
-    ("|run|--db=-x", Plain("-x", &[], &[])),
-    ("|run|--db=--steps", Plain("--steps", &[], &[])),
-    ("|run|--db=-", Plain("-", &[], &[])),
-    ("|run|--db=é", Plain("é", &[], &[])),
+    ("|run|--db|rows", Plain(Database("rows"), &[], &[])),
+    ("|run|--db=rows", Plain(Database("rows"), &[], &[])),
+    ("|run|--db|run", Plain(Database("run"), &[], &[])),
+    ("|run|--db|a b/c=d", Plain(Database("a b/c=d"), &[], &[])),
+    ("|run|--db=a=b", Plain(Database("a=b"), &[], &[])),
+    ("|run|--db=-x", Plain(Database("-x"), &[], &[])),
+    ("|run|--db=--steps", Plain(Database("--steps"), &[], &[])),
+    ("|run|--db=-", Plain(Database("-"), &[], &[])),
+    ("|run|--db=é", Plain(Database("é"), &[], &[])),
+    ("|run|--journal|rows", Plain(Journal("rows"), &[], &[])),
+    ("|run|--journal=--db", Plain(Journal("--db"), &[], &[])),
+    (
+        "|run|--journal|a b/c=d",
+        Plain(Journal("a b/c=d"), &[], &[]),
+    ),
+    (
+        "|run|--fail-host=2|--journal=rows",
+        Plain(Journal("rows"), &[2], &[]),
+    ),
     // Which calls fail: those of the host, and those of the keeper.
-    ("|run", Plain("", &[], &[])),
-    ("|run|--fail-host|2", Plain("", &[2], &[])),
-    ("|run|--fail-host=2", Plain("", &[2], &[])),
-    ("|run|--fail-keeper|4", Plain("", &[], &[4])),
-    ("|run|--fail-keeper=4", Plain("", &[], &[4])),
-    ("|run|--fail-host=2|--fail-keeper=4", Plain("", &[2], &[4])),
+    ("|run", Plain(Memory, &[], &[])),
+    ("|run|--fail-host|2", Plain(Memory, &[2], &[])),
+    ("|run|--fail-host=2", Plain(Memory, &[2], &[])),
+    ("|run|--fail-keeper|4", Plain(Memory, &[], &[4])),
+    ("|run|--fail-keeper=4", Plain(Memory, &[], &[4])),
+    (
+        "|run|--fail-host=2|--fail-keeper=4",
+        Plain(Memory, &[2], &[4]),
+    ),
     (
         "|run|--fail-keeper|4,5|--fail-host|2,3",
-        Plain("", &[2, 3], &[4, 5]),
+        Plain(Memory, &[2, 3], &[4, 5]),
     ),
     // The order of a list stays, and a number may come twice.
-    ("|run|--fail-host=3,1,3", Plain("", &[3, 1, 3], &[])),
-    ("|run|--fail-keeper=7,1", Plain("", &[], &[7, 1])),
+    ("|run|--fail-host=3,1,3", Plain(Memory, &[3, 1, 3], &[])),
+    ("|run|--fail-keeper=7,1", Plain(Memory, &[], &[7, 1])),
     // The least and the greatest number, and the longest list.
-    ("|run|--fail-host=1", Plain("", &[1], &[])),
+    ("|run|--fail-host=1", Plain(Memory, &[1], &[])),
     (
         "|run|--fail-host=18446744073709551615,1",
-        Plain("", &[18_446_744_073_709_551_615, 1], &[]),
+        Plain(Memory, &[18_446_744_073_709_551_615, 1], &[]),
     ),
     (
         "|run|--fail-host|1,2,3,4,5,6,7,8,9,10,11,12,13,14,15,16,17,18,19,20,21,22,23,24,\
         25,26,27,28,29,30,31,32,33,34,35,36,37,38,39,40,41,42,43,44,45,46,47,48,49,50,\
         51,52,53,54,55,56,57,58,59,60,61,62,63,64",
-        Plain("", &NUMBERS, &[]),
+        Plain(Memory, &NUMBERS, &[]),
     ),
     (
         "|run|--fail-keeper|1,2,3,4,5,6,7,8,9,10,11,12,13,14,15,16,17,18,19,20,21,22,23,\
         24,25,26,27,28,29,30,31,32,33,34,35,36,37,38,39,40,41,42,43,44,45,46,47,48,49,\
         50,51,52,53,54,55,56,57,58,59,60,61,62,63,64",
-        Plain("", &[], &NUMBERS),
+        Plain(Memory, &[], &NUMBERS),
     ),
     // All that may be said of a run, in any order and in both forms.
     (
         "|run|--now|5|--steps|3|--boot|9|--db|rows|--fail-host|2,3",
-        Full("rows", &[2, 3], &[]),
+        Full(Database("rows"), &[2, 3], &[]),
     ),
     (
         "|run|--fail-host=2,3|--db=rows|--boot=9|--steps=3|--now=5",
-        Full("rows", &[2, 3], &[]),
+        Full(Database("rows"), &[2, 3], &[]),
     ),
     (
         "|run|--db|rows|--steps=3|--fail-host|2,3|--now=5|--boot|9",
-        Full("rows", &[2, 3], &[]),
+        Full(Database("rows"), &[2, 3], &[]),
     ),
     (
         "|run|--boot=9|--now|5|--fail-host=2,3|--steps|3|--db=rows",
-        Full("rows", &[2, 3], &[]),
+        Full(Database("rows"), &[2, 3], &[]),
+    ),
+    (
+        "|run|--boot=9|--journal|rows|--now|5|--fail-host=2,3|--steps|3",
+        Full(Journal("rows"), &[2, 3], &[]),
     ),
     (
         "|run|--steps=3|--fail-keeper|4|--boot|9|--fail-host=2|--now=5",
-        Full("", &[2], &[4]),
+        Full(Memory, &[2], &[4]),
     ),
     (
         "|run|--fail-keeper=4|--now|5|--fail-host|2|--boot=9|--steps|3",
-        Full("", &[2], &[4]),
+        Full(Memory, &[2], &[4]),
     ),
 ];
 
@@ -214,6 +236,7 @@ const NOT_READ: &[&str] = &[
     // An option that the command does not have, or two that do not stand together, or a sign without an option.
     // The command does not have the option.
     "|make|7|40|--db|rows",
+    "|make|7|40|--journal|rows",
     "|make|--steps=3|7|40",
     "|drill|7|40|--now=5",
     "|check|--steps|3",
@@ -264,6 +287,21 @@ const NOT_READ: &[&str] = &[
     "|drill|7|40|--db",
     "|drill|7|40|--db=",
     "|drill|7|40|--db|rows|--db=rows",
+    "|run|--journal",
+    "|run|--journal=",
+    "|run|--journal|",
+    "|run|--journal|-x",
+    "|check|--journal",
+    "|check|--journal=",
+    "|drill|7|40|--journal=",
+    "|run|--journal=rows|--journal|rows",
+    "|run|--journals=rows",
+    "|run|--db=rows|--journal=other",
+    "|run|--journal=rows|--db=rows",
+    "|drill|--db|rows|7|--journal|other|40",
+    "|check|--journal|rows|--db|rows",
+    "|run|--journal=rows|--fail-keeper=4",
+    "|run|--fail-keeper|4|--journal|rows",
     "|run|--db=rows|--fail-keeper=4",
     "|run|--fail-keeper|4|--db|rows",
     "|run|--db=rows|--db=rows",
@@ -362,12 +400,12 @@ const NOT_READ: &[&str] = &[
     "|run|=5",
 ];
 
-/// Whether the file is this one, and the calls that fail are these of the host and these of the keeper.
-fn are_listed(alloc: Global, words: &[String], db: &str, host: &[u64], keeper: &[u64]) -> bool {
+/// Whether the rows are kept there, and the calls that fail are these of the host and these of the keeper.
+fn are_listed(alloc: Global, words: &[String], kept: Kept, host: &[u64], keeper: &[u64]) -> bool {
     let Ok(setup) = setup_of(alloc, words) else {
         return false;
     };
-    let are = (setup.db.view() == db)
+    let are = is_at(&setup.rows, kept)
         & (setup.fail_host.view() == host)
         & (setup.fail_keeper.view() == keeper);
     drop(setup);
@@ -382,19 +420,19 @@ fn are_read(alloc: Global, words: &[String], says: Option<CommandWords>) -> bool
     }
 }
 
-/// Whether words say this, name this file, and list these calls.
+/// Whether words say this, where rows are kept, and list these calls.
 fn say(
     alloc: Global,
     words: &str,
     says: Option<CommandWords>,
-    db: &str,
+    kept: Kept,
     host: &[u64],
     keeper: &[u64],
 ) -> bool {
     let Ok(words) = owned(alloc, words) else {
         return false;
     };
-    let is = are_read(alloc, &words, says) & are_listed(alloc, &words, db, host, keeper);
+    let is = are_read(alloc, &words, says) & are_listed(alloc, &words, kept, host, keeper);
     drop(words);
     is
 }
@@ -403,11 +441,18 @@ fn say_run(
     alloc: Global,
     words: &str,
     run: RunWords,
-    db: &str,
+    kept: Kept,
     host: &[u64],
     keeper: &[u64],
 ) -> bool {
-    say(alloc, words, Some(CommandWords::Run(run)), db, host, keeper)
+    say(
+        alloc,
+        words,
+        Some(CommandWords::Run(run)),
+        kept,
+        host,
+        keeper,
+    )
 }
 
 /// No moment, all steps, and no word of the start.
@@ -427,31 +472,31 @@ const FULL: RunWords = RunWords {
 fn are_said(alloc: Global, words: &str, want: Want) -> bool {
     match want {
         Run(now, pace, boot) => {
-            say_run(alloc, words, RunWords { now, pace, boot }, "", &[], &[])
+            say_run(alloc, words, RunWords { now, pace, boot }, Memory, &[], &[])
         }
-        Plain(db, host, keeper) => say_run(alloc, words, PLAIN, db, host, keeper),
-        Full(db, host, keeper) => say_run(alloc, words, FULL, db, host, keeper),
-        Make(seed, count, db) => {
+        Plain(kept, host, keeper) => say_run(alloc, words, PLAIN, kept, host, keeper),
+        Full(kept, host, keeper) => say_run(alloc, words, FULL, kept, host, keeper),
+        Make(seed, count, kept) => {
             say(
                 alloc,
                 words,
                 Some(CommandWords::Make { seed, count }),
-                db,
+                kept,
                 &[],
                 &[],
             )
         }
-        Drill(seed, count, db) => {
+        Drill(seed, count, kept) => {
             say(
                 alloc,
                 words,
                 Some(CommandWords::Drill { seed, count }),
-                db,
+                kept,
                 &[],
                 &[],
             )
         }
-        Check(db) => say(alloc, words, Some(CommandWords::Check), db, &[], &[]),
+        Check(kept) => say(alloc, words, Some(CommandWords::Check), kept, &[], &[]),
     }
 }
 
@@ -465,6 +510,6 @@ fn words_say_what_to_do(rt: HostRuntime) {
 #[test]
 fn other_words_are_not_read(rt: HostRuntime) {
     for words in NOT_READ {
-        assert!(rt; say(rt.alloc(), words, None, "", &[], &[]), "{words}");
+        assert!(rt; say(rt.alloc(), words, None, Memory, &[], &[]), "{words}");
     }
 }

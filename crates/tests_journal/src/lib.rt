@@ -5,6 +5,10 @@
 #[cfg(test)]
 mod crashes;
 #[cfg(test)]
+mod day;
+#[cfg(test)]
+mod days;
+#[cfg(test)]
 mod files;
 #[cfg(test)]
 mod rows;

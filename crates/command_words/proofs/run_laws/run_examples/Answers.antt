@@ -24,8 +24,14 @@ worked = record {
   zero_in_front = refl;
   too_many = refl;
   file_and_keeper = refl;
+  journal_and_keeper = refl;
   file_and_host = refl;
   no_file = refl;
+  journal = refl;
+  two_files = refl;
+  drill_of_two = refl;
+  check_of_two = refl;
+  no_journal = refl;
 }
 
 pub returns : goal.returns

@@ -5,5 +5,5 @@ use Rattle.command_words.proofs.run_program.drill_command.Goals as goal
 
 pub returns : goal.returns
 returns c =
-    let before = more _ _ _ _ (more _ _ _ _ (new_command (codes "drill") _ c.new-command.ensures.app c.new-command.ensures.local) c.in_ok-command.ensures) c.in_ok-command-2.ensures in
-    IfOk-weaker c.with_option.result _ _ (λ made adds. more _ _ _ made before adds) c.with_option.ensures
+    let before = more _ _ _ _ (more _ _ _ _ (more _ _ _ _ (new_command (codes "drill") _ c.new-command.ensures.app c.new-command.ensures.local) c.in_ok-command.ensures) c.in_ok-command-2.ensures) c.in_ok-command-3.ensures in
+    IfOk-weaker c.with_option-2.result _ _ (λ made adds. more _ _ _ made before adds) c.with_option-2.ensures
