@@ -1,11 +1,10 @@
 #!/usr/bin/env python3
 """Starts incusd on a free port of 127.0.0.1 and listens to its events, by plain sockets and by a stock library; one line for each check.
 
-    tests/events.py [--program FILE] [--only WORD]
+    tests/events.py [--program FILE] [--only WORD] [--listen SECONDS] [--links N]
 
 The program is crates/incusd/out/incusd without `--program` (`bin/incusd --prove` makes it). Each check starts a server of its own, which
-has to end by itself, with status 0 after its last connection. A session of events ends when a write fails, so each check goes on to make
-events after its listeners went away, until the server has closed their connections.
+has to end by itself, with status 0 after its last connection.
 
 1. `accept`: the head that accepts a handshake, to the byte; what is no handshake, and a bad query, are refused on a connection that goes on.
 2. `creation`: what listeners of each type get of the creation of an instance.
@@ -14,7 +13,14 @@ events after its listeners went away, until the server has closed their connecti
    events of its filter, in order. It is skipped where neither this Python nor /usr/bin/python3 has the library.
 5. `lagged`: a listener that doesn't read gets all events from its first up to one that is no longer kept, then a close frame; beside it
    one that reads gets all of them.
-6. `gone`: listeners that go away within the head of their request, after it, and within an event.
+6. `gone`: listeners that go away within the head of their request, after it, and within an event: each is noticed within two seconds, in
+   a quiet project too.
+7. `frames`: what a listener gets for each frame that it sends, to the byte: pings, closes, what is no frame, and frames in pieces. A ping is
+   answered within a second, and so is a close, after which the connection ends.
+8. `left`: so many listeners come and go (2,000 without `--links`), in a quiet project: threads and handles of the server are what they were.
+9. `stock client`: a client of the library `websockets` with its defaults, which pings every 20 s and cuts a link that does not answer,
+   listens for so long (70 s without `--listen`) in a quiet project and beside one in a busy one, and closes in under a second. It is
+   skipped where the library is missing.
 
 It ends with status 1 where something is otherwise.
 """
@@ -45,7 +51,10 @@ KEY = "dGhlIHNhbXBsZSBub25jZQ=="
 HEAD = (b"HTTP/1.1 101 Switching Protocols\r\nUpgrade: websocket\r\nConnection: Upgrade\r\n"
         b"Sec-WebSocket-Accept: s3pPLMBiTxaQ9kYGzzhZRbK+xOo=\r\n\r\n")
 # The first bytes of the frames that a server sends.
-TEXT, CLOSE = 0x81, 0x88
+TEXT, CLOSE, PONG = 0x81, 0x88, 0x8a
+# The codes of a close, as its content has them: of a client that keeps no pace, of an end that goes away, of what is no frame and of one
+# that is too long.
+LAGGED, AWAY, NO_FRAME, TOO_LONG = b"\x03\xf0lagged: events were missed", b"\x03\xe9", b"\x03\xea", b"\x03\xf1"
 # How many events the server keeps for its listeners.
 KEPT = 1024
 STATUS_CODES = {"Pending": 105, "Running": 103, "Cancelling": 104, "Success": 200, "Failure": 400, "Cancelled": 401}
@@ -164,19 +173,18 @@ def open_files(server):
     return found
 
 
-def await_ends(server, ends, tell):
-    """Tells events until the server has closed its ends of connections whose clients went away, as it does when a write fails."""
-    until = time.monotonic() + PATIENCE
+def await_ends(server, ends, within=PATIENCE):
+    """Waits until the server has closed its ends of connections whose clients went away."""
+    until = time.monotonic() + within
     while ends & open_files(server):
-        need(time.monotonic() < until, "the session of a listener that went away doesn't end")
-        tell()
+        need(time.monotonic() < until, f"the session of a listener that went away doesn't end within {within} s")
         time.sleep(0.01)
 
 
-def leave(server, listeners, tell):
+def leave(server, listeners):
     for listener in listeners:
         listener.link.close()
-    await_ends(server, {listener.end for listener in listeners}, tell)
+    await_ends(server, {listener.end for listener in listeners})
 
 
 def reset(link):
@@ -247,7 +255,7 @@ def accept(program):
         refused(link, handshake("?type=logging"), "A3", key="type")
         touch(link)
         need_same([in_short(listener.event())], [TOUCHED], "after the refusals")
-        leave(server, [listener], lambda: touch(link))
+        leave(server, [listener])
         need(ask(link, "GET", "/1.0", last=True)[0] == 200, "the last request")
     return "the head to the byte, and 4 refusals"
 
@@ -276,8 +284,7 @@ def creation(program):
             need_same([in_short(event) for event in events], due, query or "no query")
             last = [event["metadata"] for event in events if event["metadata"].get("status") == "Success"]
             need(last == (ended if "operation" in types else []), f"{last}, and {ended} was answered")
-        names = (f"more{number}" for number in itertools.count())
-        leave(server, listeners.values(), lambda: teller.create(next(names)))
+        leave(server, listeners.values())
         teller.ask("GET", "/1.0")
     return f"{len(queries)} listeners of 2 creations"
 
@@ -301,8 +308,7 @@ def cancelled(program):
             raise Wrong(f"{most} times the cancel came too late")
         teller.ask("GET", f"/1.0/instances/{names[-1]}", due=404)
         need(teller.ask("GET", f"/1.0/operations/{last}")["metadata"]["status"] == "Cancelled", "the status of the cancelled operation")
-        more = (f"more{number}" for number in itertools.count())
-        leave(server, [listener], lambda: teller.create(next(more)))
+        leave(server, [listener])
     return f"after {len(names) - 1} others, in time at try {tries}"
 
 
@@ -365,7 +371,7 @@ async def heard_of_day(server, teller):
     queries = {"?project=lab": ("lab", BOTH), "?project=lab&type=operation": ("lab", {"operation"}),
                "?project=shop&type=lifecycle": ("shop", {"lifecycle"})}
     base = f"ws://127.0.0.1:{server.port}/1.0/events"
-    clients = [await websockets.connect(base + query, ping_interval=None, close_timeout=0.2) for query in queries]
+    clients = [await websockets.connect(base + query) for query in queries]
     texts = [[] for _ in clients]
     tasks = [asyncio.create_task(gather(client, texts[place])) for place, client in enumerate(clients)]
     await asyncio.to_thread(spend_day, teller)
@@ -380,8 +386,7 @@ async def heard_of_day(server, teller):
     for client, task in zip(clients, tasks):
         task.cancel()
         await client.close()
-    more = (f"more{number}" for number in itertools.count())
-    await asyncio.to_thread(await_ends, server, ends, lambda: part(teller, next(more)))
+    await asyncio.to_thread(await_ends, server, ends)
     return heard
 
 
@@ -399,13 +404,6 @@ async def arrived(texts, due, tasks):
         await asyncio.sleep(0.01)
     # What is told too often at the end would come now.
     await asyncio.sleep(0.2)
-
-
-def part(teller, name):
-    """An event for each listener of a day."""
-    teller.begin("POST", "/1.0/instances?project=lab", new_instance(name), "lab", "instance-created",
-                 f"/1.0/instances/{name}?project=lab")
-    teller.ask("PATCH", "/1.0/profiles/default?project=shop", {"description": name})
 
 
 def spend_day(teller):
@@ -532,7 +530,7 @@ def lagged(program):
         with server.connect() as other:
             need(ask(other, "GET", "/1.0", last=True)[0] == 200, "another client")
         got = read_late(slow, renames)
-        leave(server, [fast], lambda: renames.go_on(1))
+        leave(server, [fast])
     return f"{most} events of {len(text)} bytes, of which one that didn't read got {got}"
 
 
@@ -556,7 +554,7 @@ def read_late(slow, renames):
         need_same([in_short(event_in(content))], [renames.told_of(got)], f"the listener that didn't read, at {got}")
         need(got < told, "a listener that didn't read got all events, so it didn't lag")
         first, content = slow.frame()
-    need((first, content) == (CLOSE, b""), f"a frame that begins with {first:#x}, with the content {content}")
+    need((first, content) == (CLOSE, LAGGED), f"a frame that begins with {first:#x}, with the content {content}")
     need(slow.ended(), "bytes after a close frame")
     need(got + KEPT < told, f"closed at event {got + 1} of {told}, which is still kept")
     slow.link.close()
@@ -578,9 +576,10 @@ def gone(program):
             with server.connect() as goer:
                 goer.sendall(whole[:cut])
             tell()
-        ends = {way(server, tell) for way in ways}
-        await_ends(server, ends, tell)
-        leave(server, [stays], lambda: touch(link))
+        for way in ways:
+            await_ends(server, {way(server, tell)}, 2)
+        tell()
+        leave(server, [stays])
         need(ask(link, "GET", "/1.0", last=True)[0] == 200, "the last request")
     return f"{len(cuts) + len(ways)} listeners"
 
@@ -627,24 +626,173 @@ def reset_in_event(server, tell):
 
 
 def gone_after_words(server, tell):
-    """What a listener sends is not read: after its ping and its close frame it gets events still."""
+    """A listener that says a ping and a close, and goes without an answer."""
     listener = Listener(server)
-    listener.link.sendall(b"\x89\x80\0\0\0\0" + b"\x88\x80\0\0\0\0")
-    tell()
-    need_same([in_short(listener.event())], [TOUCHED], "a listener that sent frames")
+    listener.link.sendall(masked(0x89, b"") + masked(0x88, b""))
     listener.link.close()
     return listener.end
+
+
+# ---- frames of a listener
+
+def masked(first, content, key=b"\x37\xfa\x21\x3d"):
+    """A frame of a client, with its content under a mask."""
+    length = len(content)
+    head = bytes([first, 128 + length]) if length < 126 else bytes([first, 254]) + length.to_bytes(2, "big")
+    return head + key + bytes(byte ^ key[place % 4] for place, byte in enumerate(content))
+
+
+# What a listener sends, and what it gets, as frames; a close is the last.
+TALKS = {
+    "a ping": ([masked(0x89, b"Hello")], [(PONG, b"Hello")]),
+    "the longest ping": ([masked(0x89, b"x" * 125)], [(PONG, b"x" * 125)]),
+    "a ping in pieces": ([bytes([byte]) for byte in masked(0x89, b"Hello")], [(PONG, b"Hello")]),
+    "pings at once": ([b"".join(masked(0x89, bytes([number])) for number in range(9))], [(PONG, bytes([number])) for number in range(9)]),
+    "a pong, texts and a ping": ([masked(0x8a, b"a"), masked(0x81, b"text"), masked(0x02, b"b"), masked(0x80, b"c"), masked(0x89, b"")],
+                                 [(PONG, b"")]),
+    "the longest text": ([masked(0x81, b"x" * 4096), masked(0x89, b"")], [(PONG, b"")]),
+    "a close": ([masked(0x88, b"\x03\xe8")], [(CLOSE, b"\x03\xe8")]),
+    "a close with a reason": ([masked(0x88, b"\x0f\xa0bye")], [(CLOSE, b"\x0f\xa0")]),
+    "a close without a code": ([masked(0x88, b"")], [(CLOSE, b"")]),
+    "a close with a code that is not sent": ([masked(0x88, b"\x03\xed")], [(CLOSE, NO_FRAME)]),
+    "a ping and a close": ([masked(0x89, b"1") + masked(0x88, b"\x03\xe8")], [(PONG, b"1"), (CLOSE, b"\x03\xe8")]),
+    "no mask": ([b"\x89\x00"], [(CLOSE, NO_FRAME)]),
+    "an extension": ([masked(0xc9, b"")], [(CLOSE, NO_FRAME)]),
+    "no such frame": ([masked(0x83, b"")], [(CLOSE, NO_FRAME)]),
+    "a ping in fragments": ([masked(0x09, b"")], [(CLOSE, NO_FRAME)]),
+    "a ping that is too long": ([masked(0x89, b"x" * 126)], [(CLOSE, NO_FRAME)]),
+    "a text that is too long": ([masked(0x81, b"x" * 4097)[:8]], [(CLOSE, TOO_LONG)]),
+    "the end": ([None], [(CLOSE, AWAY)]),
+}
+
+
+def frames(program):
+    slowest = 0
+    with Server(program, 1 + len(TALKS)) as server, server.connect() as link:
+        for name, (pieces, due) in TALKS.items():
+            slowest = max(slowest, talk(server, name, pieces, due, lambda: touch(link)))
+        need(ask(link, "GET", "/1.0", last=True)[0] == 200, "the last request")
+    return f"{len(TALKS)} talks, the slowest answer after {slowest:.2f} s"
+
+
+def talk(server, name, pieces, due, tell):
+    """Sends these pieces, and needs these frames; then an event is told, where no close was. The seconds until the last of them."""
+    listener = Listener(server)
+    for piece in pieces:
+        if piece is None:
+            listener.link.shutdown(socket.SHUT_WR)
+        else:
+            listener.link.sendall(piece)
+            time.sleep(0.002 if len(piece) == 1 else 0)
+    begun = time.monotonic()
+    for wanted in due:
+        got = listener.frame()
+        need(got == wanted, f"{name}: {got}, and {wanted} is due")
+    took = time.monotonic() - begun
+    need(took < 1, f"{name}: the answer took {took:.2f} s")
+    if due[-1][0] == CLOSE:
+        need(listener.ended(), f"{name}: bytes after a close")
+        await_ends(server, {listener.end}, 1)
+    else:
+        tell()
+        need_same([in_short(listener.event())], [TOUCHED], f"the event after {name}")
+        leave(server, [listener])
+    listener.link.close()
+    return took
+
+
+def held_by(server):
+    """How many threads and open files a server has."""
+    tasks = Path(f"/proc/{server.process.pid}")
+    return len(list((tasks / "task").iterdir())), len(list((tasks / "fd").iterdir()))
+
+
+def left(program, links):
+    at_once = min(links, 100)
+    rounds = links // at_once
+    with Server(program, 1 + (rounds + 1) * at_once) as server, server.connect() as link:
+        come_and_go(server, at_once)
+        before = settled(server, held_by(server), 2)
+        for _ in range(rounds):
+            come_and_go(server, at_once)
+        after = settled(server, before, 2)
+        need(after == before, f"threads and handles: {before} before {rounds * at_once} listeners, {after} after")
+        need(ask(link, "GET", "/1.0", last=True)[0] == 200, "the last request")
+    return f"{rounds * at_once} listeners, and {before[0]} threads and {before[1]} handles before and after"
+
+
+def come_and_go(server, count):
+    """So many listeners at once, half of whom end their connections in good order."""
+    listeners = [Listener(server) for _ in range(count)]
+    for place, listener in enumerate(listeners):
+        if place % 2:
+            reset(listener.link)
+        else:
+            listener.link.close()
+    await_ends(server, {listener.end for listener in listeners}, 2)
+
+
+def settled(server, due, within):
+    """What a server holds once that is so much, or after so many seconds."""
+    until = time.monotonic() + within
+    while (held := held_by(server)) != due and time.monotonic() < until:
+        time.sleep(0.05)
+    return held
+
+
+def stock_client(program, seconds):
+    if websockets is None:
+        raise Skipped("python3-websockets is not installed")
+    with Server(program, 3) as server, server.connect() as link:
+        teller = Teller(link)
+        teller.ask("POST", "/1.0/projects", {"name": "quiet"})
+        try:
+            count, took = asyncio.run(listened(server, teller, seconds))
+        except websockets.WebSocketException as error:
+            raise Wrong(f"websockets: {error!r}") from error
+        teller.ask("GET", "/1.0")
+    return f"{seconds} s, {count} events in the busy project, closed within {took:.2f} s"
+
+
+async def listened(server, teller, seconds):
+    """Two clients listen for so long, one in a quiet project. How many events the other one got, and how long a close took at most."""
+    base = f"ws://127.0.0.1:{server.port}/1.0/events?type=lifecycle&project="
+    clients = [await websockets.connect(base + project) for project in ("quiet", "default")]
+    texts = [[] for _ in clients]
+    tasks = [asyncio.create_task(gather(client, texts[place])) for place, client in enumerate(clients)]
+    until = time.monotonic() + seconds
+    told = 0
+    while time.monotonic() < until:
+        await asyncio.to_thread(touch, teller.link)
+        told += 1
+        await asyncio.sleep(0.02)
+    await arrived(texts, [[], [None] * told], tasks)
+    for name, events, due in (("quiet", texts[0], 0), ("busy", texts[1], told)):
+        need(len(events) == due, f"the {name} client got {len(events)} events, and {due} are due")
+    need(not any(task.done() for task in tasks), "a client was cut")
+    slowest = 0
+    for client, task in zip(clients, tasks):
+        begun = time.monotonic()
+        await client.close()
+        slowest = max(slowest, time.monotonic() - begun)
+        await task
+    need(slowest < 1, f"a close took {slowest:.2f} s")
+    return told, slowest
 
 
 def main():
     words = argparse.ArgumentParser()
     words.add_argument("--program", default=str(TOP / "crates/incusd/out/incusd"))
     words.add_argument("--only", default="")
+    words.add_argument("--listen", type=float, default=70, metavar="SECONDS")
+    words.add_argument("--links", type=int, default=2000, metavar="N")
     said = words.parse_args()
     # Another Python than that of the system may lack the library. It is tried once: the system's own doesn't come here again.
     if websockets is None and os.path.exists(STOCK_PYTHON) and not os.path.samefile(sys.executable, STOCK_PYTHON):
         os.execv(STOCK_PYTHON, [STOCK_PYTHON, *sys.argv])
-    checks = {"accept": accept, "creation": creation, "cancelled": cancelled, "a tenant's day": tenants_day, "lagged": lagged, "gone": gone}
+    checks = {"accept": accept, "creation": creation, "cancelled": cancelled, "a tenant's day": tenants_day, "lagged": lagged, "gone": gone,
+              "frames": frames, "left": lambda program: left(program, said.links),
+              "stock client": lambda program: stock_client(program, said.listen)}
     wrong = 0
     for name, check in checks.items():
         if said.only not in name:

@@ -6,12 +6,12 @@
 The program is crates/incusd/out/incusd without `--program` (`bin/incusd --prove` makes it). No server here is told how many connections
 it takes, so each is killed at the end of its check.
 
-1. `short`: N short connections (200,000) in rounds of 500 at once. Its threads, memory maps and handles are those after the first round,
-   and its memory grows by no more than 4 MB.
+1. `short`: N short connections (200,000) in rounds of 500 at once, and how many a second. Its threads, memory maps and handles are those
+   after the first round, and its memory grows by no more than 4 MB.
 2. `too many`: with `--at-once 8`, eight connections are kept open; each further one is answered 503 and closed within a second, and once
    one of the eight has gone the next is served.
-3. `handles`: a server that may open 64 handles is asked over more connections than that. Once they have gone it answers within a second,
-   and standard error has told of it once.
+3. `handles`: a server that may open 64 handles, and one that may open 1,024, has all of them taken by connections, and given back, five
+   times. Each time it answers within a second, and standard error has told of it once.
 4. `idle`: with `--idle 1`, a connection that sends nothing and one that never ends its head are closed within two seconds.
 5. `stay`: a connection that asks every half second is served beside that for ten seconds.
 
@@ -140,20 +140,30 @@ def too_many(program, _):
     return f"100 turned away, the slowest after {1000 * longest:.1f} ms; the next one served"
 
 
-def handles(program, _):
-    with Server(program, handles=64) as server:
-        links = [server.connect() for _ in range(120)]
-        time.sleep(2)
-        for link in links:
-            link.close()
-        time.sleep(0.5)
-        began = time.monotonic()
-        need(round_of(server, 1) == 1, "it does not answer any more")
-        answered = time.monotonic() - began
-        need(answered < 1, f"it answers after {answered:.1f} s")
+def taken_and_given_back(program, limit):
+    """How long the slowest first answer took, after all handles had been taken and given back."""
+    slowest = 0
+    with Server(program, "--at-once", "4096", handles=limit) as server:
+        for _ in range(5):
+            links = [server.connect() for _ in range(2 * limit)]
+            time.sleep(1)
+            for link in links:
+                link.close()
+            time.sleep(0.5)
+            began = time.monotonic()
+            need(round_of(server, 1) == 1, "it does not answer any more")
+            slowest = max(slowest, time.monotonic() - began)
+            need(slowest < 1, f"it answers after {slowest:.1f} s")
     told = server.said.count("for the next connection")
     need(told == 1, f"told {told} times: {server.said}")
-    return f"answered {1000 * answered:.0f} ms after 120 connections had gone; told once"
+    return slowest
+
+
+def handles(program, _):
+    _, most = resource.getrlimit(resource.RLIMIT_NOFILE)
+    resource.setrlimit(resource.RLIMIT_NOFILE, (most, most))
+    few, many = taken_and_given_back(program, 64), taken_and_given_back(program, 1024)
+    return f"answered {1000 * few:.0f} ms after 64 handles were given back, and {1000 * many:.0f} ms after 1,024; told once"
 
 
 def idle(program, _):

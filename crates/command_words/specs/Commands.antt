@@ -2,12 +2,13 @@
 use Rattle.std.specs.Prelude.{◌≡◌, ◌==◌, ℕ, Bool, true, false, not, ◌&&◌}
 use Rattle.std.specs.Prelude.{◌||◌, List, [], ◌∷◌, ◌++◌, length, Some, codes}
 use Rattle.std.specs.List.{list_any}
+use Rattle.std.specs.Option.{option_map_or}
 use Rattle.std.specs.Str.{bytes_eq}
 use Rattle.clap.specs.Simple.{new_shape}
-use Rattle.clap.specs.Words.{App, Rule, Shape, app_of, fault_of, found_of, matches_of, new_rule, rows_of}
+use Rattle.clap.specs.Words.{App, Row, Rule, Shape, app_of, fault_of, first_of, found_of, matches_of, new_rule, rows_of}
 use Rattle.clap.specs.Words.{subcommand_of, subcommand_rows_of, with_rule}
 use Rattle.clap.specs.declared.builder.command.Command.TheViews.{out-Command as fields_of}
-use Rattle.clap.specs.declared.builder.ArgAction.TheVariants.{Set}
+use Rattle.clap.specs.declared.builder.ArgAction.TheVariants.{Set, SetTrue}
 use Rattle.clap.specs.declared.builder.command.Command.{Command}
 use Rattle.clap.specs.declared.parser.matches.ArgMatches.{ArgMatches}
 
@@ -20,6 +21,10 @@ option_of name = record (new_rule name) { long = Some name; action = Some Set }
 -- such an option that the words have to give
 abbrev pub required_option_of : List ℕ → Rule
 required_option_of name = record (option_of name) { required = true }
+
+-- an option without a value, `--name`, which is given at most once
+abbrev pub flag_of : List ℕ → Rule
+flag_of name = record (new_rule name) { long = Some name; action = Some SetTrue }
 
 -- a word that has to stand in its place, between the options
 abbrev pub positional_of : List ℕ → Rule
@@ -55,6 +60,10 @@ has_dashes words = list_any is_dashes words
 -- whether a program takes the words: none is nothing but dashes, and `clap` finds no fault in them
 abbrev pub are_taken : App → List (List ℕ) → Bool
 are_taken app words = not (has_dashes words) && (length (fault_of app words) == 0)
+
+-- whether the flag of this name is given
+abbrev pub is_flagged : List ℕ → List Row → Bool
+is_flagged name given = option_map_or (λ value. bytes_eq value (codes "true")) (first_of name given) false
 
 -- the values are those that the words give: of the program itself, and of the command that they name
 abbrev pub AreGiven : App → List (List ℕ) → ArgMatches → Type 0

@@ -1,27 +1,27 @@
 -- Lists of words, each with what it says, or with nothing where it is not read.
-use Rattle.std.specs.Prelude.{◌≡◌, ℕ, List, [], ◌∷◌, Option, Some, None, codes}
+use Rattle.std.specs.Prelude.{◌≡◌, ℕ, true, false, List, [], ◌∷◌, Option, Some, None, codes}
 use Rattle.command_words.specs.ServeWords.{serve_setup_of, serve_words_of}
 use Rattle.command_words.specs.declared.rows_path.RowsPath.TheVariants.{Database, Journal, Memory}
 use Rattle.command_words.specs.declared.serve_setup.ServeSetup.{ServeSetup}
 
 -- nothing to make a server of
 abbrev pub not_read : ServeSetup
-not_read = record { port = 0; rows = Memory; idle = 0; tickets = 0 }
+not_read = record { port = 0; rows = Memory; idle = 0; stops = false; tickets = 0 }
 
 -- the option that has to be given, and how many connections are taken
 abbrev pub both : List (List ℕ)
 both = codes "--port" ∷ codes "8443" ∷ codes "--connections" ∷ codes "4" ∷ []
 
 pub record AreWorked : Type 0 where
-  -- the option that has to be given, and six of them
+  -- the option that has to be given, and all that stand together
   pub plain : serve_words_of (codes "--port" ∷ codes "8443" ∷ [])
       ≡ Some (record { connections = None; at_once = 512; workers = 2 })
   pub counted : serve_words_of both ≡ Some (record { connections = Some 4; at_once = 512; workers = 2 })
-  pub plain_setup : serve_setup_of both ≡ record { port = 8443; rows = Memory; idle = 60; tickets = 515 }
+  pub plain_setup : serve_setup_of both ≡ record { port = 8443; rows = Memory; idle = 60; stops = false; tickets = 515 }
   pub all : serve_setup_of
       (codes "--db=f" ∷ codes "--workers=8" ∷ codes "--connections=1000000" ∷ codes "--port=1" ∷ codes "--at-once=4096"
-      ∷ codes "--idle=3600" ∷ [])
-      ≡ record { port = 1; rows = Database (codes "f"); idle = 3600; tickets = 4105 }
+      ∷ codes "--idle=3600" ∷ codes "--stop-at-end-of-input" ∷ [])
+      ≡ record { port = 1; rows = Database (codes "f"); idle = 3600; stops = true; tickets = 4105 }
   -- the port is missing, a number is out of range, or there is a word more
   pub nothing : serve_setup_of [] ≡ not_read
   pub no_port : serve_words_of (codes "--connections=4" ∷ []) ≡ None
@@ -34,9 +34,12 @@ pub record AreWorked : Type 0 where
   pub no_path : serve_setup_of (codes "--db=" ∷ both) ≡ not_read
   -- a journal, one without a path, and one beside a database
   pub journal : serve_setup_of (codes "--journal" ∷ codes "f" ∷ both)
-      ≡ record { port = 8443; rows = Journal (codes "f"); idle = 60; tickets = 515 }
+      ≡ record { port = 8443; rows = Journal (codes "f"); idle = 60; stops = false; tickets = 515 }
   pub no_journal : serve_setup_of (codes "--journal=" ∷ both) ≡ not_read
   pub two_files : serve_words_of (codes "--journal=f" ∷ codes "--db=g" ∷ both) ≡ None
+  -- the flag takes no value, and stands once
+  pub flag_value : serve_words_of (codes "--stop-at-end-of-input=true" ∷ both) ≡ None
+  pub flag_twice : serve_words_of (codes "--stop-at-end-of-input" ∷ codes "--stop-at-end-of-input" ∷ both) ≡ None
   pub twice : serve_words_of (codes "--port=8443" ∷ both) ≡ None
   pub help : serve_words_of (codes "--help" ∷ both) ≡ None
   pub word : serve_words_of (codes "serve" ∷ both) ≡ None

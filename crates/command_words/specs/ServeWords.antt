@@ -1,11 +1,11 @@
 -- The words of the command line: the options of the program that serves connections.
-use Rattle.std.specs.Prelude.{ℕ, ◌+◌, ◌≤◌, ◌&&◌, true}
+use Rattle.std.specs.Prelude.{ℕ, ◌+◌, ◌≤◌, ◌&&◌, true, Bool, false}
 use Rattle.std.specs.Prelude.{if◌then◌else◌, List, [], ◌∷◌, length, Option, Some}
 use Rattle.std.specs.Prelude.{None, option_map, codes}
 use Rattle.std.specs.Option.{option_and_then, option_map_or, unwrap_or}
 use Rattle.clap.specs.Simple.{new_shape}
 use Rattle.clap.specs.Words.{App, Row, Rule, Shape, first_of, matches_of}
-use Rattle.command_words.specs.Commands.{are_taken, option_of, required_option_of}
+use Rattle.command_words.specs.Commands.{are_taken, flag_of, is_flagged, option_of, required_option_of}
 use Rattle.command_words.specs.Numbers.{number_said}
 use Rattle.command_words.specs.RowsPaths.{are_values, is_one_file, rows_path, store_options}
 use Rattle.command_words.specs.declared.rows_path.RowsPath.{RowsPath}
@@ -30,6 +30,7 @@ serve_options =
     ∷ option_of (codes "idle")
     ∷ option_of (codes "db")
     ∷ option_of (codes "journal")
+    ∷ flag_of (codes "stop-at-end-of-input")
     ∷ []
 
 -- the program as `clap` reads it
@@ -112,16 +113,21 @@ serve_words_of words =
 abbrev pub rows_in : List (List ℕ) → RowsPath
 rows_in words = option_map_or rows_path (parsed_options words) Memory
 
+-- whether the end of standard input stops the server
+abbrev pub stops_in : List (List ℕ) → Bool
+stops_in words = option_map_or (is_flagged (codes "stop-at-end-of-input")) (parsed_options words) false
+
 -- one ticket through the lock for each connection that is served at once, one for each worker, and one to close
-abbrev pub setup_with : Option Options → RowsPath → ServeSetup
-setup_with (Some options) rows = record {
+abbrev pub setup_with : Option Options → RowsPath → Bool → ServeSetup
+setup_with (Some options) rows stops = record {
   port = options.port;
   rows = rows;
   idle = options.idle;
+  stops = stops;
   tickets = options.at_once + options.workers + 1;
 }
-setup_with None rows = record { port = 0; rows = Memory; idle = 0; tickets = 0 }
+setup_with None rows stops = record { port = 0; rows = Memory; idle = 0; stops = false; tickets = 0 }
 
 -- what the words say of the outside: port 0, rows in memory and no tickets where they are not read
 abbrev pub serve_setup_of : List (List ℕ) → ServeSetup
-serve_setup_of words = setup_with (options_of words) (rows_in words)
+serve_setup_of words = setup_with (options_of words) (rows_in words) (stops_in words)

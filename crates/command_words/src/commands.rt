@@ -2,7 +2,7 @@
 ghost use Rattle.std.specs.Prelude.{◌≡◌, false, IfOk, IsErr, MatchResult};
 ghost use Rattle.clap.specs.Words.{app_of, shape_of, with_subcommand};
 ghost use Rattle.clap.specs.declared.builder.command.Command.TheViews.{out-Command as fields_of};
-ghost use Rattle.command_words.specs.Commands.{AddsRule, option_of, positional_of, required_option_of};
+ghost use Rattle.command_words.specs.Commands.{AddsRule, flag_of, option_of, positional_of, required_option_of};
 
 use clap::{Arg, ArgAction, Command};
 use size_values::NoMemory;
@@ -33,6 +33,18 @@ pub fn with_required_option<'a>(
         .action(ArgAction::Set)
         .required(true);
     Ok(command.arg(option)?)
+}
+
+/// Adds an option without a value, `--name`.
+pub fn with_flag<'a>(
+    alloc: Global,
+    command: Command<'a>,
+    name: &'a str,
+) -> Result<Command<'a>, NoMemory>
+    ensures { IfOk result (AddsRule (flag_of name.entry.now) command.entry) }
+{
+    let flag = Arg::new(alloc, name).long(name).action(ArgAction::SetTrue);
+    Ok(command.arg(flag)?)
 }
 
 /// Adds a word that has to stand in its place.

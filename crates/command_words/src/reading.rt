@@ -2,7 +2,7 @@
 ghost use Rattle.std.specs.Prelude.{◌≡◌, ◌≢◌, None, true, IfOk, IfSome, is_some, map, option_map, string_bytes};
 ghost use Rattle.clap.specs.Words.{app_of, first_of, found_of, is_simple_and_free, kind_of, rows_of};
 ghost use Rattle.clap.specs.declared.error.kind.ErrorKind.TheVariants as kind;
-ghost use Rattle.command_words.specs.Commands.{AreGiven, are_taken, has_dashes, is_dashes};
+ghost use Rattle.command_words.specs.Commands.{AreGiven, are_taken, has_dashes, is_dashes, is_flagged};
 
 use clap::error::ErrorKind;
 use clap::{ArgMatches, Command, Error};
@@ -68,4 +68,14 @@ pub fn value_of<'a>(given: &ArgMatches<'a>, name: &str) -> Option<&'a str>
     ensures { option_map (λ v. v.now) result ≡ first_of name.now (rows_of (found_of given.now)) }
 {
     given.get_str(name)
+}
+
+/// Whether the flag of this name is given.
+pub fn is_flagged(given: &ArgMatches<'_>, name: &str) -> bool
+    ensures { result ≡ is_flagged name.now (rows_of (found_of given.now)) }
+{
+    match value_of(given, name) {
+        Some(value) => value == "true",
+        None => false,
+    }
 }

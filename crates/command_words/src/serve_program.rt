@@ -4,7 +4,7 @@ ghost use Rattle.clap.specs.Words.{app_of, found_of, rows_of};
 ghost use Rattle.command_words.specs.Commands.{HasShape};
 ghost use Rattle.command_words.specs.ServeWords.{bare_program, parsed_options, serve_program};
 
-use crate::commands::{with_option, with_required_option};
+use crate::commands::{with_flag, with_option, with_required_option};
 use crate::reading::parse_words;
 use clap::{ArgMatches, Command};
 use size_values::NoMemory;
@@ -29,7 +29,8 @@ fn program<'a>(alloc: Global) -> Result<Command<'a>, NoMemory>
     let program = with_option(alloc, program, "workers")?;
     let program = with_option(alloc, program, "idle")?;
     let program = with_option(alloc, program, "db")?;
-    with_option(alloc, program, "journal")
+    let program = with_option(alloc, program, "journal")?;
+    with_flag(alloc, program, "stop-at-end-of-input")
 }
 
 /// What the words give to the options.

@@ -1,11 +1,13 @@
 //! What the words say of the outside.
-ghost use Rattle.std.specs.Prelude.{◌≡◌, map, option_map, IfOk, string_bytes};
+ghost use Rattle.std.specs.Prelude.{◌≡◌, codes, false, map, option_map, IfOk, string_bytes};
 ghost use Rattle.std.specs.Option.{option_and_then, option_map_or};
 ghost use Rattle.clap.specs.Words.{found_of, rows_of};
+ghost use Rattle.command_words.specs.Commands.{is_flagged};
 ghost use Rattle.command_words.specs.RowsPaths.{rows_path};
 ghost use Rattle.command_words.specs.ServeWords.{options_from, serve_setup_of, setup_with};
 ghost use Rattle.command_words.specs.declared.rows_path.RowsPath.TheVariants.{Memory};
 
+use crate::reading::is_flagged;
 use crate::rows_path::{RowsPath, rows_path};
 use crate::serve_program::parsed_options;
 use crate::serve_words::options_of_matches;
@@ -13,13 +15,14 @@ use clap::ArgMatches;
 use size_values::NoMemory;
 use std::alloc::Global;
 
-/// The port that is listened on; where the rows are kept; how many seconds a connection may send nothing; and how many
-/// tickets through the lock of the server the run takes.
+/// The port that is listened on; where the rows are kept; how many seconds a connection may send nothing; whether the end
+/// of standard input stops the server; and how many tickets through the lock of the server the run takes.
 #[derive(Drop)]
 pub struct ServeSetup {
     pub port: u32,
     pub rows: RowsPath,
     pub idle: u32,
+    pub stops: bool,
     pub tickets: u32,
 }
 
@@ -34,11 +37,24 @@ fn rows_of_matches(alloc: Global, given: &Option<ArgMatches<'_>>) -> Result<Rows
     }
 }
 
+/// Whether the end of standard input stops the server.
+fn stops(given: &Option<ArgMatches<'_>>) -> bool
+    ensures { result ≡ option_map_or (is_flagged (codes "stop-at-end-of-input"))
+        (option_map (λ m. rows_of (found_of m)) given.now) false }
+{
+    match given {
+        Some(given) => is_flagged(given, "stop-at-end-of-input"),
+        None => false,
+    }
+}
+
 /// What the options say of the outside.
 fn setup_of_matches(alloc: Global, given: &Option<ArgMatches<'_>>) -> Result<ServeSetup, NoMemory>
     ensures { IfOk result (λ setup. setup ≡ setup_with
         (option_and_then options_from (option_map (λ m. rows_of (found_of m)) given.now))
-        (option_map_or rows_path (option_map (λ m. rows_of (found_of m)) given.now) Memory)) }
+        (option_map_or rows_path (option_map (λ m. rows_of (found_of m)) given.now) Memory)
+        (option_map_or (is_flagged (codes "stop-at-end-of-input")) (option_map (λ m. rows_of (found_of m)) given.now)
+        false)) }
 {
     match options_of_matches(given) {
         Some(options) => {
@@ -48,6 +64,7 @@ fn setup_of_matches(alloc: Global, given: &Option<ArgMatches<'_>>) -> Result<Ser
                 port: options.port,
                 rows,
                 idle: options.idle,
+                stops: stops(given),
                 tickets,
             })
         }
@@ -55,6 +72,7 @@ fn setup_of_matches(alloc: Global, given: &Option<ArgMatches<'_>>) -> Result<Ser
             port: 0,
             rows: RowsPath::Memory,
             idle: 0,
+            stops: false,
             tickets: 0,
         }),
     }

@@ -1,5 +1,5 @@
 -- Which answers each event can have.
-use Rattle.std.proofs.Common.{ℕ, Bool, cond, true, false, List, [], ◌∷◌, Option, Some, None}
+use Rattle.std.proofs.Common.{ℕ, max, Bool, cond, true, false, List, [], ◌∷◌, Option, Some, None}
 use Rattle.host_model.specs.declared.call.HostCall.{HostCall}
 use Rattle.host_model.specs.declared.report.Report.{Report}
 use Rattle.host_model.specs.declared.report.Report.TheVariants as report
@@ -22,14 +22,16 @@ use Rattle.row_machine.specs.machine.Step.{call_failed, committed, done, first_p
 use Rattle.row_machine.specs.machine.Step.{taken, while_cancelling, while_running}
 use Rattle.records.specs.declared.notices.Filter.{Filter}
 use Rattle.gates.specs.History.{MayAnswer}
+use Rattle.gates.specs.Times.{no_earlier}
 use Rattle.rest_answers.proofs.ForClients.{Speaks, turned_speaks}
 use Rattle.gates.specs.Answers.{IsForListener, IsForLooker, IsForReporter, IsForTaker}
 
 -- what holds of the answer of each step holds of the answer that the server may give
 pub may : (such : Answer → Type 0) (e : Event) (a : Answer)
-    → ((s : State) (outcome : Outcome) → Speaks such (step s e outcome)) → MayAnswer e a → such a
-may such e a each h =
-    turned_speaks such h.from.state e h.outcome a h.to.state (each h.from.state h.outcome) h.by.turns.is
+    → ((s : State) (latest : ℕ) (outcome : Outcome) → Speaks such (step s (no_earlier latest e) outcome))
+    → MayAnswer e a → such a
+may such e a each h = turned_speaks such h.from.state (no_earlier h.latest e) h.outcome a h.to.state
+    (each h.from.state h.latest h.outcome) h.by.turns.is
 
 -- an answer that is always given
 always_speaks : (such : Answer → Type 0) (after : After) (outcome : Outcome) → such after.answer
@@ -48,7 +50,8 @@ looked_speaks s number outcome = always_speaks IsForLooker _ outcome (by _) wher
   by false = tt
 
 pub for_looker : (number : ℕ) (a : Answer) → MayAnswer (event.Look number) a → IsForLooker a
-for_looker number a h = may IsForLooker (event.Look number) a (λ s outcome. looked_speaks s number outcome) h
+for_looker number a h = may IsForLooker (event.Look number) a
+    (λ s latest outcome. looked_speaks s number outcome) h
 
 -- ---- events
 
@@ -62,7 +65,7 @@ fetched_speaks s cursor filter no_memory = tt
 pub for_listener : (cursor : ℕ) (filter : Filter) (a : Answer) → MayAnswer (event.Fetch cursor filter) a
     → IsForListener a
 for_listener cursor filter a h = may IsForListener (event.Fetch cursor filter) a
-    (λ s outcome. fetched_speaks s cursor filter outcome) h
+    (λ s latest outcome. fetched_speaks s cursor filter outcome) h
 
 -- ---- calls that are asked for
 
@@ -84,7 +87,8 @@ take_speaks s moment outcome =
     always_speaks IsForTaker (taken s moment (first_pending s)) outcome (taken_speaks s moment (first_pending s))
 
 pub for_taker : (moment : ℕ) (a : Answer) → MayAnswer (event.Take moment) a → IsForTaker a
-for_taker moment a h = may IsForTaker (event.Take moment) a (λ s outcome. take_speaks s moment outcome) h
+for_taker moment a h = may IsForTaker (event.Take moment) a
+    (λ s latest outcome. take_speaks s (max latest moment) outcome) h
 
 -- ---- reports
 
@@ -151,4 +155,4 @@ report_speaks s number r moment outcome = done_speaks s number r moment outcome 
 pub for_reporter : (number : ℕ) (r : Report) (moment : ℕ) (a : Answer) → MayAnswer (event.Done number r moment) a
     → IsForReporter a
 for_reporter number r moment a h = may IsForReporter (event.Done number r moment) a
-    (λ s outcome. report_speaks s number r moment outcome) h
+    (λ s latest outcome. report_speaks s number r (max latest moment) outcome) h

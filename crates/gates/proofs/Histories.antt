@@ -1,5 +1,6 @@
 -- Histories one after the other.
-use Rattle.std.proofs.Common.{◌≡◌, ◌<◌, ◌≤◌, ◌+◌, ◌-◌, ◌^◌, ◌++◌, ℕ, List, [], ◌∷◌, Option, Some, None, refl, sym, ◌∙◌, subst}
+use Rattle.std.proofs.Common.{◌≡◌, ◌<◌, ◌≤◌, ◌+◌, ◌-◌, ◌^◌, ◌++◌, ℕ, Bool, true, false, List, [], ◌∷◌, Option, Some, None}
+use Rattle.std.proofs.Common.{refl, sym, ◌∙◌, subst}
 use Rattle.std.proofs.Common.{add-zero, arith}
 use Rattle.std.proofs.lemmas.List.Sums.{sum_by-append, sum_by-cons}
 use Rattle.std.specs.List.{sum_by}
@@ -12,7 +13,7 @@ use Rattle.serial_steps.proofs.Counting.{caused-rose, rose-twice}
 use Rattle.gates.specs.Chains.{Chain, none, more}
 use Rattle.gates.specs.Gates.{Between, Seen}
 use Rattle.gates.specs.History.{Bears, Counts, EventBy, Item, Contents, ContentsBy, capped, failures_at, failures_in}
-use Rattle.gates.specs.History.{idle, idle_at, idles_in, turn, turn_at, turns_in}
+use Rattle.gates.specs.History.{idle, idle_at, idled_after, idles_in, turn, turn_at, turns_in}
 
 -- ---- chains
 
@@ -40,6 +41,11 @@ counts-capped a b is low = omega (arith, is, low)
 
 counts-same : (a b : ℕ) → b ≡ a → Counts 0 a b
 counts-same a b same low = omega (arith, same)
+
+counts-idled : (is_up : Bool) (events : List (Event × Outcome)) (a b : ℕ) → b ≡ idled_after is_up a
+    → Counts (idle_at (idle is_up events)) a b
+counts-idled true events a b is = counts-capped a b is
+counts-idled false events a b is = counts-same a b is
 
 -- ---- failures of the keeper
 
@@ -72,7 +78,7 @@ item-bears i None b by = tt
 item-bears (turn e outcome a) (Some s) b by =
     subst (Bears (failed_commits outcome) (Some s)) (sym by.1)
     (caused-rose outcome s.store.failures by.0.store.failures by.2.caused)
-item-bears (idle events) (Some s) b by =
+item-bears (idle is_up events) (Some s) b by =
     subst (Bears (failures_of events) (Some s)) (sym by.1) (events-bear by.2)
 
 -- ---- from one moment of a gate to another
@@ -105,11 +111,11 @@ pub between-turn : {old new : Seen} {e : Event} {outcome : Outcome} {a : Answer}
 between-turn {old} {new} {e} {outcome} {a} by turned idled = between-one (turn e outcome a) old new by
     (counts-capped old.turned new.turned turned) (counts-same old.idled new.idled idled)
 
-pub between-idle : {old new : Seen} {events : List (Event × Outcome)}
-    → ContentsBy old.contents (idle events) new.contents → new.turned ≡ old.turned
-    → new.idled ≡ capped (old.idled + 1) → Between (idle events ∷ []) old new
-between-idle {old} {new} {events} by turned idled = between-one (idle events) old new by
-    (counts-same old.turned new.turned turned) (counts-capped old.idled new.idled idled)
+pub between-idle : {old new : Seen} {is_up : Bool} {events : List (Event × Outcome)}
+    → ContentsBy old.contents (idle is_up events) new.contents → new.turned ≡ old.turned
+    → new.idled ≡ idled_after is_up old.idled → Between (idle is_up events ∷ []) old new
+between-idle {old} {new} {is_up} {events} by turned idled = between-one (idle is_up events) old new by
+    (counts-same old.turned new.turned turned) (counts-idled is_up events old.idled new.idled idled)
 
 -- some things were done, and then more
 pub between-append : {xs ys : List Item} {a b c : Seen} → Between xs a b → Between ys b c → Between (xs ++ ys) a c

@@ -1,5 +1,5 @@
 -- With a step of its worker a gate idles once.
-use Rattle.std.proofs.Common.{◌≡◌, Some, refl, [], ◌∷◌, ap}
+use Rattle.std.proofs.Common.{◌≡◌, true, Some, refl, [], ◌∷◌, ap}
 use Rattle.record_keeper.specs.Store.{Store}
 use Rattle.row_machine.specs.declared.events.Event.TheVariants as event
 use Rattle.row_machine.specs.machine.Step.{well}
@@ -9,7 +9,8 @@ use Rattle.gates.specs.History.{EventBy, GateIdle}
 use Rattle.gates.proofs.Histories.{chain-one}
 use Rattle.gates.specs.Alone.{contents_at}
 
-pub step-idles : (w w' : SerialWorld) (s : Step) → Steps w s w' → GateIdle (Some (contents_at w)) (Some (contents_at w'))
+pub step-idles : (w w' : SerialWorld) (s : Step) → Steps w s w'
+    → GateIdle true (Some (contents_at w)) (Some (contents_at w'))
 step-idles w w' (took moment) t = record {
   events = (event.Take moment, well) ∷ [];
   by = (

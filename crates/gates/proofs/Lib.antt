@@ -3,3 +3,4 @@ pub mod Histories
 pub mod Walking
 pub mod Answering
 mod Idling
+mod Awaiting

@@ -1,10 +1,10 @@
 -- Walks one after the other.
-use Rattle.std.proofs.Common.{◌≡◌, ◌+◌, ◌++◌, [], ◌∷◌}
+use Rattle.std.proofs.Common.{◌≡◌, ◌+◌, ◌++◌, Bool, [], ◌∷◌}
 use Rattle.row_machine.specs.declared.events.Answer.{Answer}
 use Rattle.row_machine.specs.declared.events.Event.{Event}
 use Rattle.gates.specs.Chains.{none}
 use Rattle.gates.specs.Gates.{Seen, Walk}
-use Rattle.gates.specs.History.{Item, GateIdle, GateTurn, capped, idle, turn}
+use Rattle.gates.specs.History.{Item, GateIdle, GateTurn, capped, idle, idled_after, turn}
 use Rattle.gates.proofs.Histories.{between-append, between-none, between-idle, between-turn, chain-append, chain-one}
 
 -- nothing was done
@@ -22,11 +22,11 @@ walk-turn Due {old} {new} {e} {a} from to t turned idled due = record {
 }
 
 -- it idled once
-pub walk-idle : {P : Type 0} (Due : P → Item → P → Type 0) {old new : Seen} (from to : P)
-    (t : GateIdle old.contents new.contents) → new.turned ≡ old.turned → new.idled ≡ capped (old.idled + 1)
-    → Due from (idle t.events) to → Walk Due old new from to
-walk-idle Due {old} {new} from to t turned idled due = record {
-  history = idle t.events ∷ [];
+pub walk-idle : {P : Type 0} (Due : P → Item → P → Type 0) {old new : Seen} {is_up : Bool} (from to : P)
+    (t : GateIdle is_up old.contents new.contents) → new.turned ≡ old.turned → new.idled ≡ idled_after is_up old.idled
+    → Due from (idle is_up t.events) to → Walk Due old new from to
+walk-idle Due {old} {new} {is_up} from to t turned idled due = record {
+  history = idle is_up t.events ∷ [];
   gate = between-idle t.by turned idled;
   due = chain-one due;
 }

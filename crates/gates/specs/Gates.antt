@@ -4,7 +4,7 @@ use Rattle.gates.specs.Chains.{Chain}
 use Rattle.gates.specs.History.{Bears, Counts, Item, Contents, ContentsBy, failures_in, idles_in, turns_in}
 
 -- what is seen of a gate at one moment: the server, where it shows it; how many turns were made at it, and how often
--- it idled
+-- it idled until its time was up
 pub record Seen : Type 0 where
   pub contents : Option Contents
   pub turned : ℕ

@@ -10,3 +10,6 @@ pub mod History
 pub mod Answers
 pub mod Moments
 pub mod Alone
+pub mod Bells
+pub mod Times
+pub mod Awaited

@@ -1,6 +1,6 @@
-ghost use Rattle.std.specs.Prelude.{◌≡◌, ◌+◌, None, Some};
+ghost use Rattle.std.specs.Prelude.{◌≡◌, ◌+◌, None, Some, true};
 ghost use Rattle.serial_steps.specs.core_turns.specs.Turns.{IsServed};
-ghost use Rattle.gates.specs.History.{GateIdle, capped};
+ghost use Rattle.gates.specs.History.{GateIdle, idled_after};
 ghost use Rattle.serial_steps.specs.Steps.{Step, Steps, hosted, serial, serial_world};
 ghost use Rattle.gates.specs.Alone.{serial_world_of, contents_at};
 
@@ -12,10 +12,12 @@ use row_machine::{Answer, Event};
 use serial_steps::{Daemon, facts_hold, go_on};
 use std::alloc::Global;
 use std::mem;
+use turnstile::Bell;
 
 /// A gate that owns its server and all that it works on: the keeper, the host and a clock. Nobody
 /// else has turns at it. Each time that it idles, its one worker makes a step: it asks for a call
 /// where it has none in hand, and else makes the call that it has on the host and reports of it.
+/// Whatever bell it waits for, that is the whole time of the idle.
 #[derive(Drop)]
 pub struct AloneGate<R: Keeper, H: Host, C: Clock> {
     alloc: Global,
@@ -65,12 +67,13 @@ impl<R: Keeper, H: Host, C: Clock> Gate for AloneGate<R, H, C> {
         answer
     }
 
-    fn idle(&mut self)
-        ensures contents { GateIdle
+    fn idle(&mut self, _bell: Bell) -> bool
+        ensures contents { GateIdle result
             (Some (contents_at (serial_world_of R.store H.contents H.failures C.readings self.old)))
             (Some (contents_at (serial_world_of R.store H.contents H.failures C.readings self.new))) }
         ensures turned { self.new.made ≡ self.old.made }
-        ensures idled { self.new.idles ≡ capped (self.old.idles + 1) }
+        ensures idled { self.new.idles ≡ idled_after result self.old.idles }
+        ensures is_up { result ≡ true }
 
         // One step of its worker.
         ensures step { (s : Step) × Steps (serial_world_of R.store H.contents H.failures C.readings self.old) s
@@ -88,6 +91,7 @@ impl<R: Keeper, H: Host, C: Clock> Gate for AloneGate<R, H, C> {
         // One call lets the empty hand go; an assignment would do so for each kind of call.
         drop(mem::replace(&mut self.hand, next));
         self.idles = self.idles.saturating_add(1);
+        true
     }
 
     fn made(&self) -> u64 {

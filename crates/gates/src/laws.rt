@@ -5,6 +5,7 @@ ghost use Rattle.records.specs.declared.notices.Filter.{Filter};
 ghost use Rattle.row_machine.specs.declared.events.Answer.{Answer};
 ghost use Rattle.row_machine.specs.declared.events.Event.TheVariants as event;
 ghost use Rattle.gates.specs.History.{MayAnswer};
+ghost use Rattle.gates.specs.Awaited.{NothingIsMissed};
 ghost use Rattle.gates.specs.Answers.{IsForListener, IsForLooker, IsForReporter, IsForTaker};
 
 /// A look is answered by whether its operation is live.
@@ -27,4 +28,9 @@ pub fn reports_are_answered()
 pub fn events_are_answered()
     ensures { (cursor : ℕ) (filter : Filter) (a : Answer)
         → MayAnswer (event.Fetch cursor filter) a → IsForListener a }
+{}
+
+/// Those who idle miss nothing: whatever a turn brings about, the bell of those who wait for it rings.
+pub fn bells_miss_nothing()
+    ensures { NothingIsMissed }
 {}

@@ -8,15 +8,15 @@ use std::alloc::Global;
 use std::sync::ledger::Ledger;
 use std::sync::{Arc, Wait};
 use std::time::Clock;
-use turnstile::{Ticket, Turnstile};
+use turnstile::{Bell, Ticket, Turnstile};
 
 /// How long it idles at most, in milliseconds.
 pub const LONGEST_IDLE: u32 = 100;
 
 /// A gate to the one server that many threads share under a lock. It turns the server by a ticket of
 /// its own, and each of its turns is one event under the lock. Between two of them others have
-/// theirs, so it does not show the server. It idles until there is an event of another one, or for
-/// a short time.
+/// theirs, so it does not show the server. It idles until the bell that it waits for rings, or for a
+/// short time; where it rang since the last turn at this gate, not at all.
 #[derive(Drop)]
 pub struct LockedGate<R: Keeper, L: Ledger, T: Wait + Clock> {
     rt: T,
@@ -68,9 +68,14 @@ impl<R: Keeper, L: Ledger, T: Wait + Clock> Gate for LockedGate<R, L, T> {
         answer
     }
 
-    fn idle(&mut self) {
-        self.turnstile.idle(&self.rt, &self.ticket, LONGEST_IDLE);
-        self.idles = self.idles.saturating_add(1);
+    fn idle(&mut self, bell: Bell) -> bool {
+        let is_up = self
+            .turnstile
+            .idle(&self.rt, &self.ticket, bell, LONGEST_IDLE);
+        if is_up {
+            self.idles = self.idles.saturating_add(1);
+        }
+        is_up
     }
 
     fn made(&self) -> u64 {

@@ -1,19 +1,30 @@
-ghost use Rattle.serial_steps.specs.core_turns.specs.Turns.{IsServed};
+ghost use Rattle.std.specs.Prelude.{◌≡◌, ◌≤◌, ◌<◌};
+ghost use Rattle.size_values.specs.Moments.{moment_limit};
+ghost use Rattle.serial_steps.specs.core_turns.specs.Turns.{IsServed, IsTurn};
+ghost use Rattle.gates.specs.Bells.{rings_at};
 ghost use Rattle.gates.specs.History.{MayAnswer};
+ghost use Rattle.gates.specs.Times.{latest_after, no_earlier};
 
+use crate::bells::{purpose_of, rings_of};
+use crate::times::{at_moment, latest_after};
 use record_keeper::Keeper;
 use row_machine::{Answer, Event};
 use serial_steps::{Daemon, facts_hold};
 use std::alloc::Global;
-use turnstile::Machine;
+use turnstile::{Machine, Rings};
 
 /// The server with its keeper, as the one machine under the lock that links and workers share. It
-/// is lent no host, no source and no sink, so none of their calls is made under the lock.
+/// is lent no host, no source and no sink, so none of their calls is made under the lock. Clocks are
+/// read before the lock is had, so an event may come with an earlier moment than the one before it:
+/// its turn is then made at the latest moment of those before.
 #[derive(Drop)]
 pub struct DaemonMachine<R: Keeper> {
     alloc: Global,
     daemon: Daemon,
     keeper: R,
+    /// The latest moment at which a turn was made, in seconds since 1970; 0 before the first.
+    latest: u64,
+    ghost early: { latest < moment_limit },
 }
 
 impl<R: Keeper> DaemonMachine<R> {
@@ -22,6 +33,7 @@ impl<R: Keeper> DaemonMachine<R> {
             alloc,
             daemon,
             keeper,
+            latest: 0,
         }
     }
 }
@@ -35,17 +47,28 @@ impl<R: Keeper> Machine for DaemonMachine<R> {
 
     ghost may_answer = { MayAnswer };
 
-    fn turn(&mut self, event: Event) -> Answer {
-        facts_hold(&self.daemon);
-        self.daemon.turn(self.alloc, &mut self.keeper, event)
-    }
+    ghost rung = { rings_at };
 
-    /// A command may begin, cancel or end an operation, a report may end one or hand out a call,
-    /// and workers end after the close.
-    fn wakes(event: &Event) -> bool {
-        match event {
-            Event::Ask(_, _) | Event::Done(_, _, _) | Event::Close => true,
-            Event::Look(_) | Event::Take(_) | Event::Fetch(_, _) => false,
-        }
+    fn turn(&mut self, event: Event) -> (Answer, Rings)
+        requires { IsServed event }
+        ensures answer { MayAnswer event result.0 }
+        ensures rings { result.1 ≡ rings_at event result.0 }
+
+        // One turn of the server, at the moment of the event, or at the latest one before where that is later.
+        ensures turned { IsTurn self.old.daemon (R.store self.old.keeper)
+            (no_earlier self.old.latest event) result.0 self.new.daemon (R.store self.new.keeper) }
+        ensures latest { self.new.latest ≡ latest_after self.old.latest event }
+
+        // The moments of turns never fall.
+        ensures rises { self.old.latest ≤ self.new.latest }
+    {
+        facts_hold(&self.daemon);
+        let purpose = purpose_of(&event);
+        let latest = latest_after(self.latest, &event);
+        let taken = at_moment(latest, event);
+        let answer = self.daemon.turn(self.alloc, &mut self.keeper, taken);
+        self.latest = latest;
+        let rings = rings_of(purpose, &answer);
+        (answer, rings)
     }
 }

@@ -1,5 +1,5 @@
-ghost use Rattle.std.specs.Prelude.{◌≡◌, ℕ, ◌<◌, ◌≤◌, ◌-◌, Bool, false, List, ◌++◌, length, take, drop, min, Option};
-ghost use Rattle.std.specs.Prelude.{IfOk, is_ok, not};
+ghost use Rattle.std.specs.Prelude.{◌≡◌, ℕ, ◌<◌, ◌≤◌, ◌-◌, Bool, true, false, List, ◌++◌, length, take, drop, min, Option};
+ghost use Rattle.std.specs.Prelude.{IfOk, IfSome, is_ok, not};
 ghost use Rattle.std.specs.Io.KnownBytes.{IsAtEnd};
 ghost use Rattle.size_values.specs.Causes.{HasCause};
 ghost use Rattle.size_values.specs.Calls.{is_next_failing, after_call, no_calls};
@@ -25,6 +25,9 @@ pub trait Source {
 
     ghost failures: { Self → ℕ };
 
+    // Whether a read gives something at once, where the source tells it.
+    ghost at_once: { Self → Option Bool };
+
     /// Reads the next bytes into the front of `into` and answers how many they are, 0 only at the end.
     fn read(&mut self, into: &mut [u8]) -> Result<usize, SourceFailed>
         requires { 0 < length into.old }
@@ -33,6 +36,13 @@ pub trait Source {
         ensures end { Ends (ended self.old) (ended self.new) result }
         ensures rest { IfOk result (λ n. n ≡ 0 → IsAtEnd (left self.new)) }
         ensures cause { HasCause (failures self.old) (failures self.new) result };
+
+    /// Whether a read gives something at once: bytes, the end, or a failure. Nothing is taken.
+    fn is_ready(&mut self) -> bool
+        ensures told { IfSome (at_once self.old) (λ told. result ≡ told) }
+        ensures bytes { left self.new ≡ left self.old }
+        ensures end { ended self.new ≡ ended self.old }
+        ensures failures { failures self.new ≡ failures self.old };
 
     /// How many reads failed; the count stops at 2^64 - 1.
     fn faults(&self) -> u64
@@ -88,6 +98,8 @@ impl Source for ByteSource {
 
     ghost failures = { λ s. s.calls.failed };
 
+    ghost at_once = { λ _. Some true };
+
     fn read(&mut self, into: &mut [u8]) -> Result<usize, SourceFailed>
         requires { 0 < length into.old }
         ensures bound { IfOk result (λ n. n ≤ length into.new) }
@@ -112,6 +124,17 @@ impl Source for ByteSource {
         self.at += count;
         self.ended = self.ended || count == 0;
         Ok(count)
+    }
+
+    /// Always: no read in memory waits.
+    fn is_ready(&mut self) -> bool
+        ensures told { result ≡ true }
+        ensures bytes { Some self.new.left ≡ Some self.old.left }
+        ensures end { self.new.ended ≡ self.old.ended }
+        ensures failures { self.new.calls.failed ≡ self.old.calls.failed }
+        ensures same { self.new ≡ self.old }
+    {
+        true
     }
 
     fn faults(&self) -> u64 {
@@ -151,11 +174,15 @@ impl<R: Read> ReaderSource<R> {
 }
 
 impl<R: Read> Source for ReaderSource<R> {
+    ghost use Rattle.std.specs.Prelude.{None};
+
     ghost left = { λ s. s.left };
 
     ghost ended = { λ s. s.ended };
 
     ghost failures = { λ s. s.faults };
+
+    ghost at_once = { λ _. None };
 
     fn read(&mut self, into: &mut [u8]) -> Result<usize, SourceFailed> {
         let Ok(count) = read_once(&mut self.inner, into) else {
@@ -164,6 +191,17 @@ impl<R: Read> Source for ReaderSource<R> {
         };
         self.ended = self.ended || count == 0;
         Ok(count)
+    }
+
+    /// Always: a reader of std shows only when it is read whether it waits.
+    fn is_ready(&mut self) -> bool
+        ensures bytes { self.new.left ≡ self.old.left }
+        ensures end { self.new.ended ≡ self.old.ended }
+        ensures failures { self.new.faults ≡ self.old.faults }
+        ensures always { result ≡ true }
+        ensures same { self.new ≡ self.old }
+    {
+        true
     }
 
     fn faults(&self) -> u64 {

@@ -2,13 +2,13 @@
 ghost use Rattle.std.specs.Prelude.{◌≡◌, map, string_bytes};
 ghost use Rattle.command_words.specs.ServeWords.{serve_setup_of};
 
-use crate::telling::DoorNotes;
+use crate::doors::{Listening, doors_of};
 use crate::threads::{Spawning, on_threads};
 use host_model::ModelHost;
-use http_front::{Clock, ReaderSource, SystemClock, WriterSink};
+use http_front::{Clock, SystemClock};
 use record_keeper::Keeper;
 use server_main::{ServerJob, serve_main};
-use serving::{Doors, LinkTimes, NetDoors, Spawner};
+use serving::{Doors, NetSink, NetSource, Spawner, Stop, status_of};
 use size_values::Seq;
 use std::alloc::Global;
 use std::marker::{Brand, PhantomData};
@@ -17,19 +17,6 @@ use std::sync::Wait;
 use std::sync::ledger::{Blank, Ledger};
 use std::thread::Threads;
 use std::time;
-use std::time::Duration;
-
-/// How many seconds a link waits for the other end to take some bytes.
-const PATIENCE: u64 = 60;
-
-/// What a server listens with: its port, after how many idle seconds a connection is closed, and how many tickets there
-/// are through the lock of the server.
-#[derive(Clone, Copy)]
-pub(crate) struct Listening {
-    pub(crate) port: u16,
-    pub(crate) idle: u32,
-    pub(crate) tickets: u32,
-}
 
 /// What a server is begun with, but for its spawner.
 struct Beginning<'a, D, R, L, T> {
@@ -94,7 +81,7 @@ fn serve_at<D, L, R, T>(
     blank: Blank,
 ) -> (u8, Option<R>)
 where
-    D: Doors<Source = ReaderSource<TcpStream>, Sink = WriterSink<TcpStream>> + Drop,
+    D: Doors<Source = NetSource<TcpStream>, Sink = NetSink<TcpStream>> + Drop,
     L: Ledger + Send + Sync + 'static,
     R: Keeper + Drop + Send + 'static,
     T: Threads + Wait + time::Clock + Copy + Drop + Send + Sync + 'static,
@@ -115,14 +102,15 @@ where
     on_threads(system, alloc, beginning)
 }
 
-/// The same over TCP, at a ledger of its own, with a part for each ticket. The port is listened on once the rows are
-/// opened.
+/// The same over TCP, at a ledger of its own, with a part for each ticket, until the server stops. The port is listened
+/// on once the rows are opened.
 pub(crate) fn serve_over<R, T>(
     rt: HostRuntime,
     system: T,
     words: &[String],
     setup: Listening,
     keeper: R,
+    stop: Stop,
 ) -> (u8, Option<R>)
 where
     R: Keeper + Drop + Send + 'static,
@@ -130,11 +118,10 @@ where
     T: Copy + Drop + Send + Sync + 'static,
     requires { setup.tickets ≡ (serve_setup_of (map (λ w. string_bytes w) words.now)).tickets }
 {
-    let times = LinkTimes {
-        idle: Duration::from_secs(u64::from(setup.idle)),
-        patience: Duration::from_secs(PATIENCE),
+    let doors = match doors_of(rt, system, setup, stop) {
+        Ok(doors) => doors,
+        Err(trouble) => return (status_of(Err(trouble)), Some(keeper)),
     };
-    let doors = NetDoors::at(system, setup.port, times, DoorNotes::new(rt, setup.port));
     let blank = Blank::new(u64::from(setup.tickets));
     serve_at::<_, Brand, R, T>(system, rt.alloc(), words, doors, keeper, blank)
 }

@@ -3,6 +3,8 @@
 //! (`command_words::serve_help`).
 #![tactic(auto)]
 
+mod alarm;
+mod doors;
 mod listening;
 mod starting;
 mod telling;

@@ -2,7 +2,9 @@
 ghost use Rattle.std.specs.Prelude.{◌≡◌, map, string_bytes};
 ghost use Rattle.command_words.specs.ServeWords.{serve_setup_of};
 
-use crate::listening::{Listening, serve_over};
+use crate::alarm::Alarm;
+use crate::doors::Listening;
+use crate::listening::serve_over;
 use crate::telling::PROGRAM;
 use crate::told_keeper::ToldKeeper;
 use command_words::{RowsPath, serve_setup_of};
@@ -14,7 +16,7 @@ use std::thread::Threads;
 use std::time;
 
 /// The exit status of a server over the rows that are kept there. Standard error tells why they were not opened, and when
-/// they are not kept.
+/// they are not kept. Where they are lost, the server stops, and the status says that the keeper failed.
 fn serve_rows<T>(
     rt: HostRuntime,
     system: T,
@@ -27,15 +29,28 @@ where
     T: Copy + Drop + Send + Sync + 'static,
     requires { listening.tickets ≡ (serve_setup_of (map (λ w. string_bytes w) words.now)).tickets }
 {
+    let Ok(alarm) = Alarm::new(rt.alloc()) else {
+        return StartFault::NoMemory.status();
+    };
+    let Ok(twin) = alarm.share() else {
+        return StartFault::NoMemory.status();
+    };
+    let Ok(stop) = alarm.stop() else {
+        return StartFault::NoMemory.status();
+    };
     let keeper = RowsKeeper::at(rt, path, Seq::new(rt.alloc()), true);
-    let keeper = ToldKeeper::over(rt, keeper);
-    let (status, back) = serve_over(rt, system, words, listening, keeper);
+    let keeper = ToldKeeper::over(rt, keeper, twin);
+    let (status, back) = serve_over(rt, system, words, listening, keeper, stop);
     if let Some(keeper) = back {
         let mut keeper = keeper.into_keeper();
         end_rows(rt, PROGRAM, status, &mut keeper);
         drop(keeper);
     }
-    status
+    if alarm.is_raised() {
+        StartFault::KeeperFailed.status()
+    } else {
+        status
+    }
 }
 
 /// Serves as the words say, and gives the exit status. Where they are not read, nothing is opened.
@@ -50,6 +65,7 @@ where
     let listening = Listening {
         port: u16::try_from(setup.port).unwrap_or(0),
         idle: setup.idle,
+        stops: setup.stops,
         tickets: setup.tickets,
     };
     let rows = setup.rows;

@@ -86,7 +86,7 @@ fn failure_text(kind: ErrorKind) -> &'static str {
 pub fn tell_end(rt: HostRuntime, status: u8) {
     match status {
         9 => tell(rt, "incusd: out of memory\n"),
-        12 => tell(rt, "incusd: a worker could not be started\n"),
+        12 => tell(rt, "incusd: a thread could not be started\n"),
         _ => {}
     }
 }

@@ -1,6 +1,7 @@
 //! A keeper of rows, of whose failures standard error is told.
 ghost use Rattle.std.specs.Prelude.{◌≡◌};
 
+use crate::alarm::Alarm;
 use crate::telling::PROGRAM;
 use program_start::{RowsKeeper, close_rows, tell_line};
 use record_keeper::{Keeper, KeeperFailed};
@@ -9,13 +10,14 @@ use std::alloc::Global;
 use std::fmt::Display;
 
 /// A keeper of rows. Standard error is told when its commits begin to fail, with the cause, when they are made again, and
-/// when a failure of the disk was made good, and when the file is lost. It closes its file where it ends with the server.
+/// when a failure of the disk was made good. Once the rows are lost, it raises the alarm. It closes its file where it ends
+/// with the server.
 pub(crate) struct ToldKeeper {
     rt: HostRuntime,
     keeper: RowsKeeper,
     is_failing: bool,
     mended: u64,
-    is_lost: bool,
+    alarm: Alarm,
 }
 
 impl Drop for ToldKeeper {
@@ -25,15 +27,15 @@ impl Drop for ToldKeeper {
             mut keeper,
             is_failing: _,
             mended: _,
-            is_lost: _,
+            alarm: _,
         } = self;
         close_rows(rt, PROGRAM, &mut keeper);
     }
 }
 
 impl ToldKeeper {
-    /// This keeper, told of.
-    pub(crate) fn over(rt: HostRuntime, keeper: RowsKeeper) -> ToldKeeper
+    /// This keeper, told of, and with an alarm for the loss of its rows.
+    pub(crate) fn over(rt: HostRuntime, keeper: RowsKeeper, alarm: Alarm) -> ToldKeeper
         ensures { result.keeper ≡ keeper }
     {
         let mended = keeper.mended();
@@ -42,7 +44,7 @@ impl ToldKeeper {
             keeper,
             is_failing: false,
             mended,
-            is_lost: false,
+            alarm,
         }
     }
 
@@ -55,7 +57,7 @@ impl ToldKeeper {
             keeper,
             is_failing: _,
             mended: _,
-            is_lost: _,
+            alarm: _,
         } = self;
         keeper
     }
@@ -90,8 +92,8 @@ impl ToldKeeper {
             self.mended = mended;
             tell_line(self.rt, mended_line(self.rt.alloc()));
         }
-        if self.keeper.is_lost() && !self.is_lost {
-            self.is_lost = true;
+        if self.keeper.is_lost() && !self.alarm.is_raised() {
+            self.alarm.raise();
             tell_line(self.rt, lost_line(self.rt.alloc()));
         }
     }
@@ -104,10 +106,10 @@ fn mended_line(alloc: Global) -> Result<String, NoMemory> {
     )?)
 }
 
-/// The line that says that no change is kept any more.
+/// The line that says why the server ends.
 fn lost_line(alloc: Global) -> Result<String, NoMemory> {
     Ok(format!(in alloc;
-        "{PROGRAM}: the file can't be opened again after that: start the program anew; the last change may be in it\n"
+        "{PROGRAM}: the file can't be opened again after that, so the server ends; the last change may be in it\n"
     )?)
 }
 

@@ -1,30 +1,74 @@
--- Replies that take no memory, and what is written for an answer.
-use Rattle.std.proofs.Common.{◌≡◌, ◌≢◌, ℕ, Bool, [], ap, sym}
-use Rattle.http_front.specs.Replies.{reply_text}
+-- Replies that take no memory, the head of a reply, and what is written for an answer.
+use Rattle.std.proofs.Common.{◌≡◌, ◌≢◌, ◌≤◌, ◌+◌, ◌-◌, ◌++◌, ℕ, Bool, false, if◌then◌else◌, List, [], length, take, ap, sym, ◌∙◌}
+use Rattle.std.proofs.Common.{arith}
+use Rattle.std.proofs.lemmas.List.{length-append}
+use Rattle.std.proofs.Math.Seq.{take-append_seam}
+use Rattle.http_heads.specs.declared.request.Request.{Request}
+use Rattle.http_front.specs.declared.reply.Printed.{Printed}
+use Rattle.http_front.specs.Replies.{head_text, reply_text}
 use Rattle.records.specs.declared.replies.Reply.{Reply}
 use Rattle.records.specs.declared.replies.Reply.TheVariants as reply
 use Rattle.rest_replies.specs.Replies.{NoMemoryIsKnown, printed_of}
-use Rattle.rest_answers.specs.Texts.{HasText, IsUnprinted, no_memory_text, printed, text_for}
+use Rattle.rest_answers.specs.Texts.{HasText, IsUnprinted, asks_head, no_memory_printed, no_memory_text, printed}
+use Rattle.rest_answers.specs.Texts.{text_for, text_to}
 use Rattle.rest_answers.specs.declared.answers.PrintedReply.{PrintedReply}
 use Rattle.rest_answers.specs.declared.answers.PrintedReply.TheVariants as written
 
+-- a text without its end
+without_end : (front end : List ℕ) → take (length (front ++ end) - length end) (front ++ end) ≡ front
+without_end front end =
+    ap (λ n. take n (front ++ end)) (ap (λ n. n - length end) (length-append front end) ∙ omega arith)
+    ∙ take-append_seam front end
+
+-- the bytes of a reply before its body
+pub before_body : (p : Printed) (whole : List ℕ) → whole ≡ reply_text p
+    → take (length whole - length p.body) whole ≡ head_text p
+unfolding reply_text
+before_body p whole is =
+    ap (λ text. take (length text - length p.body) text) is ∙ without_end (head_text p) p.body
+
+pub body_fits : (p : Printed) (whole : List ℕ) → whole ≡ reply_text p → length p.body ≤ length whole
+unfolding reply_text
+body_fits p whole is =
+    let long : length whole ≡ length (head_text p) + length p.body =
+    ap (λ text. length text) is ∙ length-append (head_text p) p.body in
+    omega (arith, long)
+
+-- the same of the reply that takes no memory, whose body has 78 bytes
+pub no_memory_front : (last : Bool) (whole : List ℕ) → whole ≡ reply_text (no_memory_printed last)
+    → take (length whole - 78) whole ≡ head_text (no_memory_printed last)
+no_memory_front last whole is = before_body (no_memory_printed last) whole is
+
+pub no_memory_fits : (last : Bool) (whole : List ℕ) → whole ≡ reply_text (no_memory_printed last) → 78 ≤ length whole
+no_memory_fits last whole is = body_fits (no_memory_printed last) whole is
+
 -- the reply that takes no memory is the one that tells that there is none
-pub no_memory_printed : (boot : ℕ) (last : Bool) → NoMemoryIsKnown
-    → no_memory_text last ≡ printed reply.NoMemory boot last
+pub no_memory_is_printed : (boot : ℕ) (request : Request) → NoMemoryIsKnown
+    → no_memory_text request ≡ printed reply.NoMemory boot request
 unfolding printed printed_of
-no_memory_printed boot last known = ap
-    (λ body. reply_text (record { code = 500; body = body; location = []; last = last })) (sym (known boot))
+no_memory_is_printed boot request known = ap
+    (λ body. text_to request (record { code = 500; body = body; location = []; last = request.last }))
+    (sym (known boot))
+
+-- a reply that is not to a HEAD has its body
+pub whole_printed : (r : Reply) (boot : ℕ) (request : Request) → request.last ≡ false → asks_head request ≡ false
+    → printed r boot request ≡ reply_text (printed_of r boot false)
+unfolding printed
+whole_printed r boot request stays by_get =
+    ap (λ head. if head then head_text (printed_of r boot request.last) else reply_text (printed_of r boot request.last))
+    by_get
+    ∙ ap (λ last. reply_text (printed_of r boot last)) stays
 
 -- what is written for an answer is the text of its reply, unless memory for it was refused
-pub text_is : (a : PrintedReply) (r : Reply) (boot : ℕ) (last : Bool) → HasText a r boot last → ¬ IsUnprinted a
-    → text_for a last ≡ printed r boot last
-text_is (written.Printed bytes) r boot last has printed = has
-text_is written.NoMemory r boot last has printed = has
-text_is written.Unprinted r boot last has printed = absurd (printed tt)
+pub text_is : (a : PrintedReply) (r : Reply) (boot : ℕ) (request : Request) → HasText a r boot request
+    → ¬ IsUnprinted a → text_for a request ≡ printed r boot request
+text_is (written.Printed bytes) r boot request has printed = has
+text_is written.NoMemory r boot request has printed = has
+text_is written.Unprinted r boot request has printed = absurd (printed tt)
 
 -- memory for a reply is refused only to one that takes memory
-pub takes_memory : (a : PrintedReply) (r : Reply) (boot : ℕ) (last : Bool) → HasText a r boot last → IsUnprinted a
-    → r ≢ reply.NoMemory
-takes_memory (written.Printed bytes) r boot last has refused = absurd refused
-takes_memory written.NoMemory r boot last has refused = absurd refused
-takes_memory written.Unprinted r boot last has refused = has
+pub takes_memory : (a : PrintedReply) (r : Reply) (boot : ℕ) (request : Request) → HasText a r boot request
+    → IsUnprinted a → r ≢ reply.NoMemory
+takes_memory (written.Printed bytes) r boot request has refused = absurd refused
+takes_memory written.NoMemory r boot request has refused = absurd refused
+takes_memory written.Unprinted r boot request has refused = has

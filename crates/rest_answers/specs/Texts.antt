@@ -1,8 +1,11 @@
 -- The bytes of replies, and what is written for them.
-use Rattle.std.specs.Prelude.{◌≡◌, ◌≢◌, ℕ, List, [], Bool, true}
+use Rattle.std.specs.Prelude.{◌≡◌, ◌≢◌, ℕ, List, [], Bool, true, if◌then◌else◌, codes}
+use Rattle.std.specs.Str.{bytes_eq}
+use Rattle.http_heads.specs.declared.request.Request.{Request}
 use Rattle.http_heads.specs.declared.request.HeadFault.{HeadFault}
 use Rattle.http_heads.specs.declared.request.HeadFault.TheVariants as fault
-use Rattle.http_front.specs.Replies.{reply_text, no_memory_body}
+use Rattle.http_front.specs.declared.reply.Printed.{Printed}
+use Rattle.http_front.specs.Replies.{head_text, reply_text, no_memory_body}
 use Rattle.records.specs.declared.refusals.Rule.{Rule}
 use Rattle.records.specs.declared.refusals.Rule.TheVariants as rule
 use Rattle.records.specs.declared.replies.Reply.{Reply}
@@ -12,9 +15,22 @@ use Rattle.rest_replies.specs.Replies.{printed_of}
 use Rattle.rest_answers.specs.declared.answers.PrintedReply.{PrintedReply}
 use Rattle.rest_answers.specs.declared.answers.PrintedReply.TheVariants as written
 
--- the bytes of a reply, which says where the connection ends after it
-unfoldable pub printed : Reply → ℕ → Bool → List ℕ
-printed reply boot last = reply_text (printed_of reply boot last)
+-- the method of a request is HEAD
+abbrev pub asks_head : Request → Bool
+asks_head request = bytes_eq request.method (codes "HEAD")
+
+-- What is written of a reply to a request: its head and its body; and for HEAD its head alone, which is the one that
+-- GET would get, with the length of the body (RFC 9110, section 9.3.2).
+abbrev pub text_to : Request → Printed → List ℕ
+text_to request printed = if asks_head request then head_text printed else reply_text printed
+
+-- the bytes of the reply to a request, which says where the connection ends after it
+unfoldable pub printed : Reply → ℕ → Request → List ℕ
+printed reply boot request = text_to request (printed_of reply boot request.last)
+
+-- all bytes of a reply, with its body
+unfoldable pub whole_text : Reply → ℕ → Bool → List ℕ
+whole_text reply boot last = reply_text (printed_of reply boot last)
 
 -- the rule that a malformed place breaks
 abbrev pub rule_of : HeadFault → Rule
@@ -26,24 +42,28 @@ rule_of fault.H4 = rule.H4
 -- The bytes that answer a malformed place, after which the connection ends. A refusal tells no id, so the boot word
 -- does not matter.
 abbrev pub malformed_text : HeadFault → List ℕ
-malformed_text fault = printed (reply.Refused (plain_refusal (rule_of fault))) 0 true
+malformed_text fault = whole_text (reply.Refused (plain_refusal (rule_of fault))) 0 true
 
--- the bytes of the reply that takes no memory
-abbrev pub no_memory_text : Bool → List ℕ
-no_memory_text last = reply_text (record { code = 500; body = no_memory_body; location = []; last = last })
+-- the reply that takes no memory
+abbrev pub no_memory_printed : Bool → Printed
+no_memory_printed last = record { code = 500; body = no_memory_body; location = []; last = last }
+
+-- the bytes that are written of it
+abbrev pub no_memory_text : Request → List ℕ
+no_memory_text request = text_to request (no_memory_printed request.last)
 
 -- What is to be written is the text of the reply, unless memory for it was refused. The reply that tells of memory
 -- refused takes none, and is always written.
-abbrev pub HasText : PrintedReply → Reply → ℕ → Bool → Type 0
-HasText (written.Printed bytes) a_reply boot last = bytes ≡ printed a_reply boot last
-HasText written.NoMemory a_reply boot last = no_memory_text last ≡ printed a_reply boot last
-HasText written.Unprinted a_reply boot last = a_reply ≢ reply.NoMemory
+abbrev pub HasText : PrintedReply → Reply → ℕ → Request → Type 0
+HasText (written.Printed bytes) a_reply boot request = bytes ≡ printed a_reply boot request
+HasText written.NoMemory a_reply boot request = no_memory_text request ≡ printed a_reply boot request
+HasText written.Unprinted a_reply boot request = a_reply ≢ reply.NoMemory
 
 -- the bytes that are written for an answer
-abbrev pub text_for : PrintedReply → Bool → List ℕ
-text_for (written.Printed bytes) last = bytes
-text_for written.NoMemory last = no_memory_text last
-text_for written.Unprinted last = []
+abbrev pub text_for : PrintedReply → Request → List ℕ
+text_for (written.Printed bytes) request = bytes
+text_for written.NoMemory request = no_memory_text request
+text_for written.Unprinted request = []
 
 -- memory for the reply was refused
 abbrev pub IsUnprinted : PrintedReply → Type 0

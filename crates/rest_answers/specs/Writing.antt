@@ -1,6 +1,7 @@
 -- How the writing of a reply ended, and what the sink took of it.
-use Rattle.std.specs.Prelude.{◌≡◌, Bool, Result, Ok, Err}
+use Rattle.std.specs.Prelude.{◌≡◌, Result, Ok, Err}
 use Rattle.http_heads.specs.declared.request.HeadFault.{HeadFault}
+use Rattle.http_heads.specs.declared.request.Request.{Request}
 use Rattle.rest_answers.specs.Links.{BreaksOff, Outlet, Takes}
 use Rattle.rest_answers.specs.Texts.{IsUnprinted, malformed_text, text_for}
 use Rattle.rest_answers.specs.declared.answers.PrintedReply.{PrintedReply}
@@ -14,11 +15,12 @@ written_by (Err error) = ended.WriteFault
 
 -- An answer was written whole, or some first bytes of it and the write failed; or nothing was, since memory for it was
 -- refused.
-abbrev pub WritesAnswer : Written → PrintedReply → Bool → Outlet → Outlet → Type 0
-WritesAnswer ended.Whole answer last sink sink' = ¬ IsUnprinted answer × Takes sink sink' (text_for answer last)
-WritesAnswer ended.WriteFault answer last sink sink' =
-    ¬ IsUnprinted answer × BreaksOff sink sink' (text_for answer last)
-WritesAnswer ended.NoMemory answer last sink sink' = IsUnprinted answer × (sink' ≡ sink)
+abbrev pub WritesAnswer : Written → PrintedReply → Request → Outlet → Outlet → Type 0
+WritesAnswer ended.Whole answer request sink sink' =
+    ¬ IsUnprinted answer × Takes sink sink' (text_for answer request)
+WritesAnswer ended.WriteFault answer request sink sink' =
+    ¬ IsUnprinted answer × BreaksOff sink sink' (text_for answer request)
+WritesAnswer ended.NoMemory answer request sink sink' = IsUnprinted answer × (sink' ≡ sink)
 
 -- A malformed place was answered by its rule, or of that reply some first bytes were written, or memory was refused
 -- before it.

@@ -1,12 +1,16 @@
 //! What is written for a reply.
-ghost use Rattle.std.specs.Prelude.{◌≡◌, ℕ, true, false, IfOk};
+ghost use Rattle.std.specs.Prelude.{◌≡◌, ℕ, true, false, IfOk, IsTrue};
+ghost use Rattle.http_heads.specs.declared.request.Request.{Request as RequestValue};
+ghost use Rattle.http_front.specs.Replies.{head_text, is_reply_code};
 ghost use Rattle.records.specs.declared.replies.Reply.TheVariants as reply;
 ghost use Rattle.records.specs.declared.replies.View.TheVariants as view;
 ghost use Rattle.row_machine.specs.machine.Refusals.{plain_refusal};
-ghost use Rattle.rest_answers.specs.Texts.{HasText, IsUnprinted, malformed_text, printed, rule_of};
+ghost use Rattle.rest_replies.specs.Replies.{printed_of};
+ghost use Rattle.rest_answers.specs.Texts.{HasText, IsUnprinted, asks_head, malformed_text, no_memory_printed};
+ghost use Rattle.rest_answers.specs.Texts.{no_memory_text, printed, rule_of, whole_text};
 
 use crate::reply_text::ReplyText;
-use http_front::{HeadFault, reply_bytes};
+use http_front::{HeadFault, Printed, Request, no_memory_reply, reply_bytes};
 use records::{Refusal, Reply, Rule};
 use rest_replies::{known_reply, no_memory_is_known, print, server_text};
 use rules_refusals::no_details;
@@ -26,46 +30,110 @@ pub enum PrintedReply {
     Unprinted,
 }
 
-/// The bytes of a reply that is made. The boot word is that of the ids of operations.
-#[tactic(auto, unfolding(crate::specs::Texts::printed))]
-fn made_text(alloc: Global, reply: &Reply, boot: u64, last: bool) -> Result<Seq<u8>, NoMemory>
-    ensures { IfOk result (λ bytes. bytes ≡ printed reply.now boot last) }
+/// Whether the method of a request is HEAD.
+pub(crate) fn asks_head(request: &Request) -> bool
+    ensures { result ≡ asks_head request.now }
+{
+    request.method.view() == "HEAD"
+}
+
+/// All bytes of a reply. The boot word is that of the ids of operations.
+#[tactic(auto, unfolding(crate::specs::Texts::whole_text))]
+fn whole_text(alloc: Global, reply: &Reply, boot: u64, last: bool) -> Result<Seq<u8>, NoMemory>
+    ensures { IfOk result (λ bytes. bytes ≡ whole_text reply.now boot last) }
 {
     let printed = print(alloc, reply, boot, last)?;
     reply_bytes(alloc, &printed)
 }
 
-/// The bytes of a reply: those that stand ready, or else it is made.
-#[tactic(auto, unfolding(crate::specs::Texts::printed))]
-fn text_of(alloc: Global, reply: &Reply, boot: u64, last: bool) -> Result<ReplyText, NoMemory>
-    ensures { IfOk result (λ bytes. bytes ≡ printed reply.now boot last) }
+/// The bytes of a printed reply before its body.
+#[tactic(auto, using(crate::proofs::Printing::before_body, crate::proofs::Printing::body_fits))]
+fn head_text(alloc: Global, printed: &Printed) -> Result<Seq<u8>, NoMemory>
+    requires { IsTrue (is_reply_code printed.now.code) }
+    ensures { IfOk result (λ bytes. bytes ≡ head_text printed.now) }
 {
-    match known_reply(reply, last) {
+    let whole = reply_bytes(alloc, printed)?;
+    let len = whole.len() - printed.body.len();
+    Seq::of_bytes(alloc, &whole.view()[..len])
+}
+
+/// The head of the reply to a request, as HEAD is answered.
+fn made_head(
+    alloc: Global,
+    reply: &Reply,
+    boot: u64,
+    request: &Request,
+) -> Result<Seq<u8>, NoMemory>
+    ensures { IfOk result (λ bytes. bytes ≡ head_text (printed_of reply.now boot request.now.last)) }
+{
+    let printed = print(alloc, reply, boot, request.last)?;
+    head_text(alloc, &printed)
+}
+
+/// The bytes of the reply to a request: those that stand ready, or else they are made.
+#[tactic(auto, unfolding(crate::specs::Texts::printed, crate::specs::Texts::whole_text))]
+fn text_of(
+    alloc: Global,
+    reply: &Reply,
+    boot: u64,
+    request: &Request,
+) -> Result<ReplyText, NoMemory>
+    ensures { IfOk result (λ bytes. bytes ≡ printed reply.now boot request.now) }
+{
+    if asks_head(request) {
+        return Ok(ReplyText::made(made_head(alloc, reply, boot, request)?));
+    }
+    match known_reply(reply, request.last) {
         Some(text) => Ok(ReplyText::ready(text)),
-        None => Ok(ReplyText::made(made_text(alloc, reply, boot, last)?)),
+        None => Ok(ReplyText::made(whole_text(alloc, reply, boot, request.last)?)),
     }
 }
 
-/// What is to be written for a reply. The boot word is that of the ids of operations, and `last` says
-/// whether the connection ends after it.
-pub fn answer_for(alloc: Global, reply: &Reply, boot: u64, last: bool) -> PrintedReply
-    ensures { HasText result reply.now boot last }
+/// What is to be written for the reply to a request, which says whether the connection ends after it: for HEAD the
+/// head of the reply alone (RFC 9110, section 9.3.2). The boot word is that of the ids of operations.
+pub fn answer_for(alloc: Global, reply: &Reply, boot: u64, request: &Request) -> PrintedReply
+    ensures { HasText result reply.now boot request.now }
 {
     match reply {
         Reply::NoMemory => {
             no_memory_is_known();
             PrintedReply::NoMemory
         }
-        _ => match text_of(alloc, reply, boot, last) {
+        _ => match text_of(alloc, reply, boot, request) {
             Ok(bytes) => PrintedReply::Printed(bytes),
             Err(NoMemory) => PrintedReply::Unprinted,
         },
     }
 }
 
-/// What is to be written for who asks for the server, where the connection stays open after it. It takes no memory.
+/// How many bytes of the reply that takes no memory are its body.
+const NO_MEMORY_BODY: usize = 78;
+
+/// The head of the reply that takes no memory.
+#[tactic(auto, using(crate::proofs::Printing::no_memory_front))]
+fn no_memory_head(last: bool) -> &'static [u8]
+    ensures { result.now ≡ head_text (no_memory_printed last) }
+{
+    let reply = no_memory_reply(last);
+    &reply[..reply.len() - NO_MEMORY_BODY]
+}
+
+/// What is written of the reply that takes no memory. It takes none.
+pub fn no_memory_text(request: &Request) -> &'static [u8]
+    ensures { result.now ≡ no_memory_text request.now }
+{
+    if asks_head(request) {
+        no_memory_head(request.last)
+    } else {
+        no_memory_reply(request.last)
+    }
+}
+
+/// What is to be written for who asks for the server by GET, where the connection stays open after it. It takes no
+/// memory.
 pub fn server_answer() -> PrintedReply
-    ensures text { (boot : ℕ) → HasText result (reply.One view.Server) boot false }
+    ensures text { (boot : ℕ) (request : RequestValue) → request.last ≡ false → asks_head request ≡ false
+        → HasText result (reply.One view.Server) boot request }
     ensures printed { ¬ (IsUnprinted result) }
 {
     PrintedReply::Printed(ReplyText::ready(server_text()))
@@ -99,7 +167,7 @@ pub fn print_malformed(alloc: Global, fault: HeadFault) -> Result<Seq<u8>, NoMem
     ensures { IfOk result (λ bytes. bytes ≡ malformed_text fault) }
 {
     let reply = Reply::Refused(refusal_of(alloc, fault));
-    let text = made_text(alloc, &reply, 0, true);
+    let text = whole_text(alloc, &reply, 0, true);
     drop(reply);
     text
 }

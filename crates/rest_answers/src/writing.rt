@@ -3,8 +3,8 @@ ghost use Rattle.std.specs.Prelude.{◌≡◌};
 ghost use Rattle.rest_answers.specs.Links.{outlet};
 ghost use Rattle.rest_answers.specs.Writing.{RefusesPlace, WritesAnswer, written_by};
 
-use crate::answers::{PrintedReply, print_malformed};
-use http_front::{HeadFault, Sink, SinkFailed, no_memory_reply};
+use crate::answers::{PrintedReply, no_memory_text, print_malformed};
+use http_front::{HeadFault, Request, Sink, SinkFailed};
 use size_values::NoMemory;
 use std::alloc::Global;
 
@@ -27,14 +27,14 @@ fn written_by(came: Result<(), SinkFailed>) -> Written
     }
 }
 
-/// Writes what a request is answered; `last` says whether the connection ends after it.
-pub fn write_answer<K: Sink>(sink: &mut K, answered: &PrintedReply, last: bool) -> Written
-    ensures { WritesAnswer result answered.now last (outlet K.held K.failures sink.old)
+/// Writes what a request is answered.
+pub fn write_answer<K: Sink>(sink: &mut K, answered: &PrintedReply, request: &Request) -> Written
+    ensures { WritesAnswer result answered.now request.now (outlet K.held K.failures sink.old)
         (outlet K.held K.failures sink.new) }
 {
     match answered {
         PrintedReply::Printed(bytes) => written_by(sink.write(bytes.view())),
-        PrintedReply::NoMemory => written_by(sink.write(no_memory_reply(last))),
+        PrintedReply::NoMemory => written_by(sink.write(no_memory_text(request))),
         PrintedReply::Unprinted => Written::NoMemory,
     }
 }

@@ -8,7 +8,7 @@ use Rattle.records.specs.declared.commands.What.TheVariants as what
 use Rattle.records.specs.declared.refusals.Rule.TheVariants as rule
 use Rattle.records.specs.declared.refusals.Refusal.{Refusal}
 use Rattle.rest_routes.specs.Answers.{followed}
-use Rattle.rest_routes.specs.Paths.{path_of, query_of}
+use Rattle.rest_routes.specs.Paths.{path_of, query_of, absolute_path, before_colon, is_http}
 use Rattle.rest_routes.specs.Endpoints.{line_of, verb_of, verb_offered}
 use Rattle.rest_routes.specs.Queries.{project_of}
 use Rattle.rest_routes.proofs.Server.{server-stands, nothing-said}
@@ -24,7 +24,7 @@ asked-by method target body boot =
     command_at line.endpoint verb (path_of target) (query_of target) (sent_body verb body) boot))
 
 by-get : (body : List ℕ) (boot : ℕ) → asked-by (codes "GET") (codes "/1.0") body boot ≡ Ok server_asked
-unfolding path_of query_of verb_offered verb_of command_at
+unfolding path_of query_of absolute_path before_colon is_http verb_offered verb_of command_at
 by-get body boot =
     ap (λ found. followed (needed rule.A1 found) (λ line.
     followed (needed rule.A2 (verb_offered line (codes "GET"))) (λ verb.

@@ -12,3 +12,4 @@ mod FormedOrigins
 mod FormedProfiles
 mod FormedRequests
 mod FormedSettings
+mod Hosts

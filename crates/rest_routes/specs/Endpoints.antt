@@ -1,5 +1,5 @@
 -- The paths of the REST API, what stands at each, and which methods are offered there.
-use Rattle.std.specs.Prelude.{◌≡◌, ◌↔◌, ℕ, Bool, true, false, ◌&&◌, List}
+use Rattle.std.specs.Prelude.{◌≡◌, ◌↔◌, ℕ, Bool, true, false, ◌&&◌, ◌||◌, List}
 use Rattle.std.specs.Prelude.{[], ◌∷◌, map, Option, Some, None, Result, Ok, Err}
 use Rattle.std.specs.Prelude.{is_none, option_map, option_and_then, if◌then◌else◌, codes}
 use Rattle.std.specs.Str.{bytes_eq}
@@ -74,10 +74,10 @@ server_line = line_with endpoint.Server
 
 -- ---- methods
 
--- the method of a request, if any path offers it
+-- the method of a request, if any path offers it; HEAD asks for what GET does (RFC 9110, section 9.3.2)
 unfoldable pub verb_of : List ℕ → Option Verb
 verb_of method =
-    if bytes_eq method (codes "GET") then Some verb.Get
+    if bytes_eq method (codes "GET") || bytes_eq method (codes "HEAD") then Some verb.Get
     else (if bytes_eq method (codes "POST") then Some verb.Post
     else (if bytes_eq method (codes "PUT") then Some verb.Put
     else (if bytes_eq method (codes "PATCH") then Some verb.Patch

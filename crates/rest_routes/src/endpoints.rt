@@ -17,7 +17,7 @@ pub enum Endpoint {
     Events,
 }
 
-/// The methods that some path offers.
+/// The methods that some path offers. HEAD is read as GET.
 #[derive(Clone, Copy)]
 pub enum Verb {
     Get,
@@ -189,12 +189,12 @@ pub(crate) const ROUTES: &[(&str, Endpoint, Methods)] = &[
     ("/1.0/events", Endpoint::Events, GET),
 ];
 
-/// The method of this name, if some path offers it.
+/// The method of this name, if some path offers it. HEAD asks for what GET does (RFC 9110, section 9.3.2).
 #[tactic(auto, unfolding(crate::specs::Endpoints::verb_of))]
 fn verb_of(method: &str) -> Option<Verb>
     ensures { result ≡ verb_of method.now }
 {
-    if method == "GET" {
+    if method == "GET" || method == "HEAD" {
         return Some(Verb::Get);
     }
     if method == "POST" {

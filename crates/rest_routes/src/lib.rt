@@ -1,6 +1,7 @@
 //! Which command a request asks for, by its form: the paths and what each offers, queries and bodies.
 #![tactic(auto)]
 
+mod absolute;
 mod commands;
 mod endpoints;
 mod known;

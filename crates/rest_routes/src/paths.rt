@@ -1,7 +1,9 @@
 ghost use Rattle.std.specs.Prelude.{◌≡◌};
-ghost use Rattle.rest_routes.specs.Paths.{before_slash, after_slash, after_three_slashes, path_of, query_of, name_of};
-ghost use Rattle.rest_routes.specs.Paths.{pool_of, instance_of};
+ghost use Rattle.std.specs.List.{before_first};
+ghost use Rattle.rest_routes.specs.Paths.{is_question_mark, before_slash, after_slash, after_three_slashes, path_in};
+ghost use Rattle.rest_routes.specs.Paths.{path_of, query_of, name_of, pool_of, instance_of};
 
+use crate::absolute::absolute_path;
 use size_values::ObjectKind;
 
 /// What stands before the first slash, or all where there is none.
@@ -26,11 +28,10 @@ fn after_slash(text: &str) -> &str
     }
 }
 
-/// The path and the query of a target, neither of them decoded: what stands before its first question mark, and what
-/// stands after it (RFC 3986, section 3.4).
-#[tactic(auto, unfolding(crate::specs::Paths::path_of, crate::specs::Paths::query_of))]
-pub fn split_target(target: &str) -> (&str, &str)
-    ensures path { result.0.now ≡ path_of target.now }
+/// What stands before the first question mark of a target, and what stands after it (RFC 3986, section 3.4).
+#[tactic(auto, unfolding(crate::specs::Paths::query_of))]
+fn split_query(target: &str) -> (&str, &str)
+    ensures front { result.0.now ≡ before_first is_question_mark target.now }
     ensures query { result.1.now ≡ query_of target.now }
 {
     match target.split_once('?') {
@@ -39,7 +40,28 @@ pub fn split_target(target: &str) -> (&str, &str)
     }
 }
 
-/// The path of a target: all before the first question mark.
+/// The path that a target without its query has.
+fn path_in(text: &str) -> &str
+    ensures { result.now ≡ path_in text.now }
+{
+    match absolute_path(text) {
+        Some(path) => path,
+        None => text,
+    }
+}
+
+/// The path and the query of a target, neither of them decoded. The path is all before the first question mark, and of
+/// a target in absolute form, as `http://localhost/1.0`, what stands there behind the host (RFC 9112, section 3.2).
+#[tactic(auto, unfolding(crate::specs::Paths::path_of))]
+pub fn split_target(target: &str) -> (&str, &str)
+    ensures path { result.0.now ≡ path_of target.now }
+    ensures query { result.1.now ≡ query_of target.now }
+{
+    let (front, query) = split_query(target);
+    (path_in(front), query)
+}
+
+/// The path of a target: all before the first question mark, and in absolute form what stands there behind the host.
 pub fn path_of(target: &str) -> &str
     ensures { result.now ≡ path_of target.now }
 {

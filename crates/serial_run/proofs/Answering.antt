@@ -1,6 +1,8 @@
 -- One request comes to its reply, from what its parts ensure.
-use Rattle.std.proofs.Common.{◌≡◌, ◌≤◌, ◌<◌, ℕ, false, List, [], ◌∷◌, length, Some, None, Result, Ok, Err, refl, sym}
-use Rattle.std.proofs.Common.{subst}
+use Rattle.std.proofs.Common.{◌≡◌, ◌≤◌, ◌<◌, ℕ, Bool, true, false, ◌&&◌, List, [], ◌∷◌, length, Some, None, Result, Ok, Err}
+use Rattle.std.proofs.Common.{refl, sym, subst, ap, codes}
+use Rattle.std.specs.Str.{bytes_eq}
+use Rattle.std.proofs.lemmas.Slice.Eq.{bytes_eq-Decides}
 use Rattle.size_values.specs.Moments.{moment_limit}
 use Rattle.size_values.specs.declared.memory.Or.{Or}
 use Rattle.size_values.specs.declared.memory.Or.TheVariants as or
@@ -23,10 +25,10 @@ use Rattle.serial_steps.specs.core_turns.specs.Turns.{IsTurn}
 use Rattle.serial_steps.specs.Steps.{SerialWorld, Step, WaitsFor, most_steps}
 use Rattle.rest_routes.specs.Answers.{IsDue}
 use Rattle.rest_answers.specs.Asked.{showing}
-use Rattle.rest_answers.specs.Texts.{HasText}
+use Rattle.rest_answers.specs.Texts.{HasText, asks_head}
 use Rattle.rest_answers.specs.declared.answers.PrintedReply.{PrintedReply}
 use Rattle.rest_routes.specs.Commands.{command_of}
-use Rattle.rest_routes.specs.Known.{server_asked}
+use Rattle.rest_routes.specs.Known.{is_server_asked, server_asked}
 use Rattle.serial_run.specs.Answers.{Answers, Reaches, Shows}
 use Rattle.serial_run.specs.Exchanges.{Carries, carried_out}
 
@@ -60,18 +62,28 @@ replied {w} {w'} {c} {moment} {a} r asks is = record {
   comes = subst (λ b. Carries w (Ok c) (Some moment) asks.turn.outcome b w') (sym is) (carries asks);
 }
 
--- who asks for the server was told of it, by the text that stands ready where the connection stays open
+both : (a b : Bool) → (a && b) ≡ true → (a ≡ true) × (b ≡ true)
+both true true e = (refl, refl)
+both true false e = cc
+both false b e = cc
+
+-- who asks for the server does so by GET
+pub asked_by_get : (request : Request) → is_server_asked request ≡ true → asks_head request ≡ false
+asked_by_get request is = ap (λ m. bytes_eq m (codes "HEAD")) ((bytes_eq-Decides request.method (codes "GET")).0
+    (both (bytes_eq request.method (codes "GET")) (bytes_eq request.target (codes "/1.0")) is).0)
+
+-- who asks for the server was told of it, by the text that stands ready
 pub server-replied : (boot : ℕ) (w w' : SerialWorld) (request : Request) (result : PrintedReply) (moment : ℕ)
-    → command_of request boot ≡ Ok server_asked → request.last ≡ false
+    → command_of request boot ≡ Ok server_asked
     → IsTurn w.serial.state w.store (event.Ask server_asked moment) (answer.Reply (reply.One view.Server)) w'.serial.state w'.store
     → w'.serial.hand ≡ w.serial.hand → w'.host ≡ w.host → Reads w.clock (moment ∷ []) w'.clock → moment < moment_limit
-    → HasText result (reply.One view.Server) boot false → Answers boot w w' request result
-server-replied boot w w' request result moment asked stays turn hand host read early text = record {
+    → HasText result (reply.One view.Server) boot request → Answers boot w w' request result
+server-replied boot w w' request result moment asked turn hand host read early text = record {
   reply = reply.One view.Server;
   reaches =
       subst (λ asks. Reaches w asks (reply.One view.Server) w') (sym asked)
       (replied (reply.One view.Server) (record { turn = turn; hand = hand; host = host; read = read; early = early }) refl);
-  text = subst (λ last. HasText result (reply.One view.Server) boot last) (sym stays) text;
+  text = text;
 }
 
 -- an operation was asked for in the project of a command

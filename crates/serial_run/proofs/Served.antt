@@ -79,7 +79,7 @@ first_together : (boot : ℕ) (pace : Pace) (w next w' : SessionWorld) (e : Exch
     → Together boot pace w (e ∷ more) w'
 first_together boot pace w next w' e more serves then = record {
   read = reads_first next w' e more (input w) serves.asked.next then.read;
-  written = appends_twice w.sink.held next.sink.held w'.sink.held (printed e.reply boot e.request.last)
+  written = appends_twice w.sink.held next.sink.held w'.sink.held (printed e.reply boot e.request)
       (printed_replies boot more) serves.replied.written then.written;
   leads = (next.serial_world, serves.leads, then.leads);
   along = along_more e more (along_leads serves.leads) then.along;

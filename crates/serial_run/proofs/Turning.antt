@@ -24,7 +24,7 @@ use Rattle.serial_run.specs.Sessions.{WritesAnswer}
 pub turn_answers : (boot : ℕ) (pace : Pace) (w w' : SessionWorld) (v : SerialWorld) (request : Request) (result : PrintedReply)
     (comes : Turn)
     → Asks w w' (got.Request request) → Answers boot w.serial_world v request result
-    → WritesAnswer comes result request.last w.sink w'.sink → GoesOn pace comes v w'.serial_world → Turns boot pace comes w w'
+    → WritesAnswer comes result request w.sink w'.sink → GoesOn pace comes v w'.serial_world → Turns boot pace comes w w'
 turn_answers boot pace w w' v request result comes asks answers writes goes = by comes writes goes where
   e : List Step → Exchange
   e steps = record {
@@ -36,11 +36,11 @@ turn_answers boot pace w w' v request result comes asks answers writes goes = by
     steps = steps;
   }
 
-  text : ¬ IsUnprinted result → text_for result request.last ≡ printed answers.reply boot request.last
-  text has = text_is result answers.reply boot request.last answers.text has
+  text : ¬ IsUnprinted result → text_for result request ≡ printed answers.reply boot request
+  text has = text_is result answers.reply boot request answers.text has
 
   serves : (steps : List Step) → IsPaced pace v steps w'.serial_world → ¬ IsUnprinted result
-      → Takes w.sink w'.sink (text_for result request.last) → Serves boot pace w w' (e steps)
+      → Takes w.sink w'.sink (text_for result request) → Serves boot pace w w' (e steps)
   serves steps paced has takes = record {
     asked = asks;
     leads = record { replied = v; comes = answers.reaches.comes; paced = paced };
@@ -54,7 +54,7 @@ turn_answers boot pace w w' v request result comes asks answers writes goes = by
     still = refl;
   }
 
-  by : (comes : Turn) → WritesAnswer comes result request.last w.sink w'.sink → GoesOn pace comes v w'.serial_world
+  by : (comes : Turn) → WritesAnswer comes result request w.sink w'.sink → GoesOn pace comes v w'.serial_world
       → Turns boot pace comes w w'
   by turn.GoOn writes goes = (e goes.0, serves goes.0 goes.1 writes.1 writes.2, writes.0)
   by turn.Final writes goes = (e goes.0, serves goes.0 goes.1 writes.1 writes.2, writes.0)
@@ -64,7 +64,7 @@ turn_answers boot pace w w' v request result comes asks answers writes goes = by
     inr (inr (
       e [],
       carried same,
-      takes_memory result answers.reply boot request.last answers.text writes.0,
+      takes_memory result answers.reply boot request answers.text writes.0,
       writes.1,
     )),
     λ e. cc,

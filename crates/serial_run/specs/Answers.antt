@@ -55,4 +55,4 @@ pub record Reaches (world : SerialWorld) (asks : Result Command Refusal) (reply 
 pub record Answers (boot : ℕ) (world later : SerialWorld) (request : Request) (result : PrintedReply) : Type 0 where
   pub reply : Reply
   pub reaches : Reaches world (command_of request boot) reply later
-  pub text : HasText result reply boot request.last
+  pub text : HasText result reply boot request

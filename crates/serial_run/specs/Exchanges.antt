@@ -186,4 +186,4 @@ host_failures_of exchanges = sum_by host_failures_at exchanges
 
 -- the bytes of the replies, in their order
 abbrev pub printed_replies : ℕ → List Exchange → List ℕ
-printed_replies boot exchanges = flat_map (λ exchange. printed exchange.reply boot exchange.request.last) exchanges
+printed_replies boot exchanges = flat_map (λ exchange. printed exchange.reply boot exchange.request) exchanges

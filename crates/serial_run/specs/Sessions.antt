@@ -3,6 +3,7 @@
 use Rattle.std.specs.Prelude.{◌≡◌, ◌≢◌, ◌<◌, ◌≤◌, ◌⊎◌, ℕ, List, [], ◌∷◌, Bool, true, false, length, take}
 use Rattle.std.specs.Prelude.{Result, Ok, Err, ◌+◌, ◌==◌, if◌then◌else◌}
 use Rattle.http_heads.specs.declared.request.HeadFault.{HeadFault}
+use Rattle.http_heads.specs.declared.request.Request.{Request}
 use Rattle.http_front.specs.declared.read.Got.{Got}
 use Rattle.http_front.specs.declared.read.Got.TheVariants as got
 use Rattle.records.specs.declared.replies.Reply.TheVariants as reply
@@ -39,7 +40,7 @@ pub record CarriesOut (boot : ℕ) (world later : SessionWorld) (exchange : Exch
 pub record Serves (boot : ℕ) (pace : Pace) (world later : SessionWorld) (exchange : Exchange) : Type 0 where
   pub asked : Asks world later (got.Request exchange.request)
   pub leads : Leads boot pace world.serial_world exchange later.serial_world
-  pub replied : Takes world.sink later.sink (printed exchange.reply boot exchange.request.last)
+  pub replied : Takes world.sink later.sink (printed exchange.reply boot exchange.request)
 
 -- ---- stops
 
@@ -56,7 +57,7 @@ Stops boot end.ReadFault world later =
     Asks world later got.ReadFault × KeepsRows world later × (later.sink ≡ world.sink)
 Stops boot end.WriteFault world later =
     ((exchange : Exchange) × CarriesOut boot world later exchange
-    × BreaksOff world.sink later.sink (printed exchange.reply boot exchange.request.last))
+    × BreaksOff world.sink later.sink (printed exchange.reply boot exchange.request))
     ⊎ ((fault : HeadFault) × Asks world later (got.Malformed fault) × KeepsRows world later
     × BreaksOff world.sink later.sink (malformed_text fault))
 Stops boot end.Spent world later = later ≡ world
@@ -138,15 +139,15 @@ turn_after (Err error) last = turn.Stop end.WriteFault
 
 -- An answer was written whole and the turn goes on as its request says, or some first bytes of it and the write failed;
 -- or nothing was, since memory for it was refused.
-abbrev pub WritesAnswer : Turn → PrintedReply → Bool → Outlet → Outlet → Type 0
-WritesAnswer turn.GoOn answer last sink sink' =
-    (last ≡ false) × ¬ IsUnprinted answer × Takes sink sink' (text_for answer last)
-WritesAnswer turn.Final answer last sink sink' =
-    (last ≡ true) × ¬ IsUnprinted answer × Takes sink sink' (text_for answer last)
-WritesAnswer (turn.Stop end.WriteFault) answer last sink sink' =
-    ¬ IsUnprinted answer × BreaksOff sink sink' (text_for answer last)
-WritesAnswer (turn.Stop end.NoMemory) answer last sink sink' = IsUnprinted answer × (sink' ≡ sink)
-WritesAnswer (turn.Stop other) answer last sink sink' = ⊥
+abbrev pub WritesAnswer : Turn → PrintedReply → Request → Outlet → Outlet → Type 0
+WritesAnswer turn.GoOn answer request sink sink' =
+    (request.last ≡ false) × ¬ IsUnprinted answer × Takes sink sink' (text_for answer request)
+WritesAnswer turn.Final answer request sink sink' =
+    (request.last ≡ true) × ¬ IsUnprinted answer × Takes sink sink' (text_for answer request)
+WritesAnswer (turn.Stop end.WriteFault) answer request sink sink' =
+    ¬ IsUnprinted answer × BreaksOff sink sink' (text_for answer request)
+WritesAnswer (turn.Stop end.NoMemory) answer request sink sink' = IsUnprinted answer × (sink' ≡ sink)
+WritesAnswer (turn.Stop other) answer request sink sink' = ⊥
 
 -- After an answer that was written whole the steps of the pace were made, and where the session stops none were.
 abbrev pub GoesOn : Pace → Turn → SerialWorld → SerialWorld → Type 0

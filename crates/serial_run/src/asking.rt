@@ -3,6 +3,7 @@ ghost use Rattle.std.specs.Prelude.{◌≡◌, true, false, Ok, ℕ};
 ghost use Rattle.records.specs.Forms.{is_formed};
 ghost use Rattle.rest_routes.specs.Commands.{command_of};
 ghost use Rattle.rest_routes.specs.Known.{server_asked};
+ghost use Rattle.rest_answers.specs.Texts.{asks_head};
 ghost use Rattle.record_keeper.specs.Store.{Store};
 ghost use Rattle.serial_steps.specs.Steps.{Hosted, hosted, serial_world};
 ghost use Rattle.serial_run.specs.Answers.{Answers, Reaches, Shows};
@@ -77,6 +78,7 @@ pub(crate) fn tell_of_server<C: Clock>(
 ) -> PrintedReply
     requires asked { (boot : ℕ) → command_of request.now boot ≡ Ok server_asked }
     requires stays { request.now.last ≡ false }
+    requires by_get { asks_head request.now ≡ false }
     ensures { (boot : ℕ) (store : Store) (host : Hosted) → Answers boot
         (serial_world daemon.now store host (C.readings clock.old))
         (serial_world daemon.now store host (C.readings clock.new))

@@ -55,6 +55,7 @@ impl Service {
     /// is read once for each command that is asked, each call that is asked for and each report. Who
     /// asks for the server is told of it by a text that stands ready.
     /// The boot word is that of the ids of operations.
+    #[tactic(auto, using(crate::proofs::Answering::asked_by_get))]
     pub fn answer<R: Keeper, H: Host, C: Clock>(
         &mut self,
         alloc: Global,
@@ -84,7 +85,7 @@ impl Service {
             request,
             boot,
         );
-        let answered = answer_for(alloc, &reply, boot, request.last);
+        let answered = answer_for(alloc, &reply, boot, request);
         drop(reply);
         answered
     }

@@ -7,11 +7,9 @@ use crate::service::Service;
 use crate::session::{SessionEnd, Turn};
 use command_words::Pace;
 use host_model::Host;
-use http_front::{
-    Buffer, Clock, Got, HeadFault, Sink, SinkFailed, Source, no_memory_reply, read_request,
-};
+use http_front::{Buffer, Clock, Got, HeadFault, Request, Sink, SinkFailed, Source, read_request};
 use record_keeper::Keeper;
-use rest_answers::{PrintedReply, print_malformed};
+use rest_answers::{PrintedReply, no_memory_text, print_malformed};
 use size_values::NoMemory;
 use std::alloc::Global;
 
@@ -28,13 +26,13 @@ fn turn_after(written: Result<(), SinkFailed>, last: bool) -> Turn
 
 /// Writes what a request is answered. Where memory for its reply was refused, nothing is written
 /// and the session stops.
-fn write_answer<K: Sink>(sink: &mut K, answered: &PrintedReply, last: bool) -> Turn
-    ensures { WritesAnswer result answered.now last (outlet K.held K.failures sink.old)
+fn write_answer<K: Sink>(sink: &mut K, answered: &PrintedReply, request: &Request) -> Turn
+    ensures { WritesAnswer result answered.now request.now (outlet K.held K.failures sink.old)
         (outlet K.held K.failures sink.new) }
 {
     match answered {
-        PrintedReply::Printed(bytes) => turn_after(sink.write(bytes.view()), last),
-        PrintedReply::NoMemory => turn_after(sink.write(no_memory_reply(last)), last),
+        PrintedReply::Printed(bytes) => turn_after(sink.write(bytes.view()), request.last),
+        PrintedReply::NoMemory => turn_after(sink.write(no_memory_text(request)), request.last),
         PrintedReply::Unprinted => Turn::Stop(SessionEnd::NoMemory),
     }
 }
@@ -103,7 +101,7 @@ pub(crate) fn turn<S: Source, K: Sink, R: Keeper, H: Host, C: Clock>(
     match read_request(alloc, buffer, source) {
         Got::Request(request) => {
             let answered = service.answer(alloc, keeper, host, clock, &request, boot);
-            let comes = write_answer(sink, &answered, request.last);
+            let comes = write_answer(sink, &answered, &request);
             drop(answered);
             buffer.reuse(request);
             go_on(alloc, keeper, host, clock, service, pace, comes);

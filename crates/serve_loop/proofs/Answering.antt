@@ -1,5 +1,5 @@
 -- Which answers a command can have.
-use Rattle.std.proofs.Common.{◌≡◌, ◌≢◌, ℕ, Bool, cond, true, false, List, Option, Some, None, refl, sym, subst}
+use Rattle.std.proofs.Common.{◌≡◌, ◌≢◌, ℕ, max, Bool, cond, true, false, List, Option, Some, None, refl, sym, subst}
 use Rattle.records.specs.declared.commands.Command.{Command}
 use Rattle.records.specs.declared.commands.What.{What}
 use Rattle.records.specs.declared.commands.What.TheVariants as what
@@ -23,11 +23,13 @@ use Rattle.serve_loop.specs.Waits.{wait_in, wait_of}
 -- ---- commands
 
 pub for_client : (c : Command) (moment : ℕ) (a : Answer) → MayAnswer (event.Ask c moment) a → IsForClient a
-for_client c moment a h = turned_for_client h.from.state c moment h.outcome a h.to.state h.by.turns.is
+for_client c moment a h =
+    turned_for_client h.from.state c (max h.latest moment) h.outcome a h.to.state h.by.turns.is
 
 pub at_once : (project : List ℕ) (op moment : ℕ) (a : Answer)
     → MayAnswer (event.Ask (record { project = project; what = what.GetOp op }) moment) a → IsAtOnce a
-at_once project op moment a h = turned_at_once h.from.state project op moment h.outcome a h.to.state h.by.turns.is
+at_once project op moment a h =
+    turned_at_once h.from.state project op (max h.latest moment) h.outcome a h.to.state h.by.turns.is
 
 -- only the answer of a wait is held back
 abbrev IsHeldFor : Command → Answer → Type 0
@@ -83,4 +85,4 @@ ask_holds s c moment outcome = asked_holds s c moment outcome (broken s c moment
 
 pub hold_waits : (c : Command) (moment op : ℕ) → MayAnswer (event.Ask c moment) (answer.Hold op) → wait_of c ≢ None
 hold_waits c moment op h = may (IsHeldFor c) (event.Ask c moment) (answer.Hold op)
-    (λ s outcome. ask_holds s c moment outcome) h
+    (λ s latest outcome. ask_holds s c (max latest moment) outcome) h

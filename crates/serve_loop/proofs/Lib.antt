@@ -5,7 +5,8 @@ mod Working
 mod ExampleLemmas
 mod FilterLemmas
 mod SubscriptionLemmas
-mod Hearing
+mod SessionParts
+mod SourceLooks
 mod Taking
 mod Linking
 mod Served

@@ -35,7 +35,7 @@ use Rattle.serve_loop.specs.declared.link.Turn.TheVariants as turn
 turn_answers : (boot : ℕ) (w w' : LinkWorld) (request : Request) (r : Reply) (a : PrintedReply) (how : Written)
     → Asks w w' (got.Request request) → subscription_of request ≡ None
     → Reaches (command_of request boot) w.gate w'.gate w.clock w'.clock r
-    → HasText a r boot request.last → WritesAnswer how a request.last w.sink w'.sink
+    → HasText a r boot request → WritesAnswer how a request w.sink w'.sink
     → Turns boot (turn_after how request.last) w w'
 turn_answers boot w w' request r a how asks plain reaches text writes = by how writes where
   e : Exchange
@@ -44,19 +44,19 @@ turn_answers boot w w' request r a how asks plain reaches text writes = by how w
   carried : CarriesOut boot w w' e
   carried = record { asked = asks; plain = plain; gate = reaches.gate; handles = reaches.handles }
 
-  is : ¬ IsUnprinted a → text_for a request.last ≡ printed r boot request.last
-  is has = text_is a r boot request.last text has
+  is : ¬ IsUnprinted a → text_for a request ≡ printed r boot request
+  is has = text_is a r boot request text has
 
-  whole : (last : Bool) → request.last ≡ last → ¬ IsUnprinted a → Takes w.sink w'.sink (text_for a request.last)
+  whole : (last : Bool) → request.last ≡ last → ¬ IsUnprinted a → Takes w.sink w'.sink (text_for a request)
       → Turns boot (turn_after ended.Whole last) w w'
   whole true last has takes = (e, record { carries = carried; replied = subst (Takes w.sink w'.sink) (is has) takes }, last)
   whole false last has takes = (e, record { carries = carried; replied = subst (Takes w.sink w'.sink) (is has) takes }, last)
 
-  by : (how : Written) → WritesAnswer how a request.last w.sink w'.sink → Turns boot (turn_after how request.last) w w'
+  by : (how : Written) → WritesAnswer how a request w.sink w'.sink → Turns boot (turn_after how request.last) w w'
   by ended.Whole writes = whole request.last refl writes.0 writes.1
   by ended.WriteFault writes = inl (e, carried, subst (BreaksOff w.sink w'.sink) (is writes.0) writes.1)
   by ended.NoMemory writes =
-      inr (inr (inr (inl (e, carried, takes_memory a r boot request.last text writes.0, writes.1))))
+      inr (inr (inr (inl (e, carried, takes_memory a r boot request text writes.0, writes.1))))
 
 -- a turn at a request: it is answered, or it stops the link
 pub turn_meets : (boot : ℕ) (w w' : LinkWorld) (request : Request) (next : Turn) → Asks w w' (got.Request request)

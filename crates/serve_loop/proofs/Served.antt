@@ -72,7 +72,7 @@ first_together : (boot : ℕ) (w next w' : LinkWorld) (e : Exchange) (more : Lis
     → Together boot next more w' → Together boot w (e ∷ more) w'
 first_together boot w next w' e more serves follows = record {
   read = reads_first next w' e more (input w) serves.carries.asked.next follows.read;
-  written = appends_twice w.sink.held next.sink.held w'.sink.held (printed e.reply boot e.request.last)
+  written = appends_twice w.sink.held next.sink.held w'.sink.held (printed e.reply boot e.request)
       (printed_replies boot more) serves.replied.written follows.written;
   gate = between-append serves.carries.gate follows.gate;
   handles = (next.clock, serves.carries.handles, follows.handles);

@@ -69,7 +69,9 @@ rose_after a b c later rose = omega (arith, later, rose)
 pub ends_after : (a b c : Outlet) (t u : List ℕ) (p : SessionStage) (ends : SessionEnd) → Takes a b t → Ends ends p b c u
     → Ends ends p a c (t ++ u)
 ends_after a b c t u p (end.Lagged cursor oldest) takes ended = (ended.0, takes_twice takes ended.1)
-ends_after a b c t u p end.Idled takes ended = (ended.0, takes_twice takes ended.1)
+ends_after a b c t u p (end.Closed code) takes ended = (ended.0, takes_twice takes ended.1)
+ends_after a b c t u p end.Ended takes ended = (ended.0, takes_twice takes ended.1)
+ends_after a b c t u p end.ReadFault takes ended = (ended.0, takes_twice takes ended.1)
 ends_after a b c t u p end.WriteFault takes ended =
     (front_after takes ended.0, rose_after a.failures b.failures c.failures takes.later ended.1)
 ends_after a b c t u p end.NoMemory takes ended = front_after takes ended

@@ -1,7 +1,6 @@
 -- How a command comes to its reply, from what its parts ensure.
-use Rattle.std.proofs.Common.{◌≡◌, ◌==◌, ◌<◌, ◌≤◌, ◌+◌, ℕ, Bool, true, false, cond, List, [], ◌∷◌, Option, Some}
-use Rattle.std.proofs.Common.{refl, ap, sym, ◌∙◌, subst, arith}
-use Rattle.std.proofs.lemmas.Bool.Decides.{nat_tests}
+use Rattle.std.proofs.Common.{◌≡◌, ◌==◌, ◌<◌, ◌+◌, ◌||◌, ℕ, Bool, true, false, cond, List, [], ◌∷◌, Option, Some, None}
+use Rattle.std.proofs.Common.{refl, ap, sym, ◌∙◌, subst}
 use Rattle.size_values.specs.Moments.{moment_limit}
 use Rattle.http_front.specs.Clocks.{Readings, Reads}
 use Rattle.records.specs.declared.commands.Command.{Command}
@@ -14,11 +13,11 @@ use Rattle.row_machine.specs.declared.events.Answer.TheVariants as answer
 use Rattle.row_machine.specs.declared.events.Event.TheVariants as event
 use Rattle.gates.specs.core_rows.specs.Asked.{answered}
 use Rattle.gates.specs.Gates.{Seen, Walk}
-use Rattle.gates.specs.History.{GateIdle, GateTurn, capped}
+use Rattle.gates.specs.History.{GateIdle, GateTurn, capped, idled_after}
 use Rattle.gates.proofs.Walking.{walk-append, walk-idle, walk-turn}
 use Rattle.serve_loop.specs.Moments.{IsLate, deadline_by, deadline_of}
-use Rattle.serve_loop.specs.Waits.{Brings, Looked, CommandStage, Sees, ServeBy, CommandWorld, after_idle, due, looking}
-use Rattle.serve_loop.specs.Waits.{most_idles, replied}
+use Rattle.serve_loop.specs.Waits.{Brings, Looked, CommandStage, Sees, ServeBy, CommandWorld, after_idle, due, goes_on, going_on}
+use Rattle.serve_loop.specs.Waits.{idles_after, looking, most_idles, replied}
 use Rattle.serve_loop.specs.Waits.{command_world, unasked, wait_in, wait_of, waiting}
 use Rattle.serve_loop.specs.declared.wait.Waiting.{Waiting}
 
@@ -53,65 +52,55 @@ looks {old} {new} {op} {a} c deadline idles clock live turn turned idled looked 
 
 -- ---- idling
 
-pub idles : {old new : Seen} {told told' : Readings} {op : ℕ} {deadline : Option ℕ} {made : ℕ}
-    (c : Command) (late : Bool)
-    → GateIdle old.contents new.contents → new.turned ≡ old.turned → new.idled ≡ capped (old.idled + 1)
-    → IsLate deadline told late told'
-    → Walk (ServeBy c) old new (command_world (waiting op deadline made) told)
-    (command_world (after_idle op deadline (made + 1) late) told')
-idles {old} {new} {told} {told'} {op} {deadline} {made} c late idle turned idled is =
-    walk-idle (ServeBy c) (command_world (waiting op deadline made) told)
-    (command_world (after_idle op deadline (made + 1) late) told') idle turned idled
-    (record { late = late; clock = is; stage = refl })
+-- where it goes on, and where it is over
+idled_so : (op : ℕ) (deadline : Option ℕ) (more : ℕ) (late : Bool)
+    → after_idle op deadline more late
+    ≡ going_on op deadline (goes_on late more)
+idled_so op deadline more late = by (late || more == most_idles) where
+  by : (over : Bool) → cond over (due op) (looking op deadline more) ≡ going_on op deadline (cond over None (Some more))
+  by true = refl
+  by false = refl
 
--- before it idled the most times, and with the deadline not reached, the operation is looked at once more
-pub looking_on : (op : ℕ) (deadline : Option ℕ) (idles : ℕ) → idles < most_idles
-    → after_idle op deadline idles false ≡ looking op deadline idles
-looking_on op deadline idles few = ap (λ full. cond full (due op) (looking op deadline idles)) below where
-  below : (idles == most_idles) ≡ false
-  below = grind (arith, nat_tests)
+pub idles : {old new : Seen} {told told' : Readings} {is_up : Bool} {op : ℕ} {deadline : Option ℕ} {made more : ℕ}
+    (c : Command) (late : Bool) (next : Option ℕ)
+    → GateIdle is_up old.contents new.contents → new.turned ≡ old.turned → new.idled ≡ idled_after is_up old.idled
+    → IsLate deadline told late told' → more ≡ idles_after is_up made → next ≡ goes_on late more
+    → Walk (ServeBy c) old new (command_world (waiting op deadline made) told)
+    (command_world (going_on op deadline next) told')
+idles {old} {new} {told} {told'} {is_up} {op} {deadline} {made} {more} c late next idle turned idled is counted on =
+    walk-idle (ServeBy c) (command_world (waiting op deadline made) told)
+    (command_world (going_on op deadline next) told') idle turned idled
+    (record { late = late; clock = is; stage = stage }) where
+      stage : going_on op deadline next ≡ after_idle op deadline (idles_after is_up made) late
+      stage = subst (λ n. going_on op deadline next ≡ after_idle op deadline n late) counted
+          (ap (going_on op deadline) on ∙ sym (idled_so op deadline more late))
 
 -- ---- one round of a wait
 
 -- the operation was not live
 pub round_ends : {a b d : Seen} {from : CommandWorld} {op : ℕ} {deadline : Option ℕ} {made : ℕ} {clock : Readings}
-    {live : Bool} (c : Command) → made < most_idles
-    → Walk (ServeBy c) a b from (command_world (after_idle op deadline made false) clock)
+    {live : Bool} (c : Command)
+    → Walk (ServeBy c) a b from (command_world (looking op deadline made) clock)
     → Walk (ServeBy c) b d (command_world (looking op deadline made) clock)
     (command_world (cond live (waiting op deadline made) (due op)) clock) → live ≡ false
     → Walk (ServeBy c) a d from (command_world (due op) clock)
-round_ends {a} {b} {d} {from} {op} {deadline} {made} {clock} {live} c few before look is =
-    walk-append (subst (λ p. Walk (ServeBy c) a b from (command_world p clock)) (looking_on op deadline made few) before)
+round_ends {a} {b} {d} {from} {op} {deadline} {made} {clock} {live} c before look is =
+    walk-append before
     (subst (λ l. Walk (ServeBy c) b d (command_world (looking op deadline made) clock)
     (command_world (cond l (waiting op deadline made) (due op)) clock)) is look)
 
 -- it was live, and the gate idled
-pub round_idles : {a b d e : Seen} {from : CommandWorld} {op : ℕ} {deadline : Option ℕ} {made : ℕ} {clock clock' : Readings}
-    {live : Bool} (c : Command) (late : Bool) → made < most_idles
-    → Walk (ServeBy c) a b from (command_world (after_idle op deadline made false) clock)
+pub round_idles : {a b d e : Seen} {from to : CommandWorld} {op : ℕ} {deadline : Option ℕ} {made : ℕ} {clock : Readings}
+    {live : Bool} (c : Command)
+    → Walk (ServeBy c) a b from (command_world (looking op deadline made) clock)
     → Walk (ServeBy c) b d (command_world (looking op deadline made) clock)
     (command_world (cond live (waiting op deadline made) (due op)) clock) → live ≡ true
-    → Walk (ServeBy c) d e (command_world (waiting op deadline made) clock)
-    (command_world (after_idle op deadline (made + 1) late) clock')
-    → Walk (ServeBy c) a e from (command_world (after_idle op deadline (made + 1) late) clock')
-round_idles {a} {b} {d} {e} {from} {op} {deadline} {made} {clock} {clock'} {live} c late few before look is idle =
-    walk-append (subst (λ p. Walk (ServeBy c) a b from (command_world p clock)) (looking_on op deadline made few) before)
+    → Walk (ServeBy c) d e (command_world (waiting op deadline made) clock) to
+    → Walk (ServeBy c) a e from to
+round_idles {a} {b} {d} {e} {from} {to} {op} {deadline} {made} {clock} {live} c before look is idle =
+    walk-append before
     (walk-append (subst (λ l. Walk (ServeBy c) b d (command_world (looking op deadline made) clock)
     (command_world (cond l (waiting op deadline made) (due op)) clock)) is look) idle)
-
--- after it idled the most times the wait is over
-spent : (op : ℕ) (deadline : Option ℕ) (idles : ℕ) → most_idles ≤ idles → idles ≤ most_idles
-    → after_idle op deadline idles false ≡ due op
-spent op deadline idles most few =
-    let is : most_idles ≡ idles = omega (arith, most, few) in
-    subst (λ n. after_idle op deadline n false ≡ due op) is refl
-
-pub wait_spent : {a b : Seen} {from : CommandWorld} {clock : Readings} (c : Command) (op : ℕ) (deadline : Option ℕ)
-    (made : ℕ) → most_idles ≤ made → made ≤ most_idles
-    → Walk (ServeBy c) a b from (command_world (after_idle op deadline made false) clock)
-    → Walk (ServeBy c) a b from (command_world (due op) clock)
-wait_spent {a} {b} {from} {clock} c op deadline made most few walk =
-    subst (λ p. Walk (ServeBy c) a b from (command_world p clock)) (spent op deadline made most few) walk
 
 -- ---- the reply after a wait
 

@@ -1,5 +1,5 @@
 -- What a worker does at its post, from what its parts ensure.
-use Rattle.std.proofs.Common.{◌≡◌, ◌≤◌, ◌<◌, ◌+◌, ℕ, [], ◌∷◌, refl}
+use Rattle.std.proofs.Common.{◌≡◌, ◌≤◌, ◌<◌, ◌+◌, ℕ, Bool, [], ◌∷◌, refl}
 use Rattle.size_values.specs.Moments.{moment_limit}
 use Rattle.host_model.specs.declared.call.HostCall.{HostCall}
 use Rattle.host_model.specs.declared.report.Report.{Report}
@@ -10,7 +10,7 @@ use Rattle.row_machine.specs.declared.events.Event.TheVariants as event
 use Rattle.gates.specs.serial_steps.specs.Steps.{Hosted}
 use Rattle.gates.specs.serial_steps.proofs.Stepping.{has-cause}
 use Rattle.gates.specs.Gates.{Seen, Walk}
-use Rattle.gates.specs.History.{GateIdle, GateTurn, capped}
+use Rattle.gates.specs.History.{GateIdle, GateTurn, capped, idled_after}
 use Rattle.gates.proofs.Walking.{walk-idle, walk-turn}
 use Rattle.serve_loop.specs.Work.{Gets, GoesOn, WorkBy, worker_world}
 use Rattle.serve_loop.specs.declared.worker.WorkerState.{WorkerState}
@@ -55,8 +55,8 @@ reports {old} {new} {told} {told'} {moment} {number} {call} {r} {a} {p} {before}
     })
 
 -- nothing waited, and the gate idled
-pub idles : {old new : Seen} (host : Hosted) (told : Readings) → GateIdle old.contents new.contents
-    → new.turned ≡ old.turned → new.idled ≡ capped (old.idled + 1)
+pub idles : {old new : Seen} {is_up : Bool} (host : Hosted) (told : Readings)
+    → GateIdle is_up old.contents new.contents → new.turned ≡ old.turned → new.idled ≡ idled_after is_up old.idled
     → Walk WorkBy old new (worker_world post.Idling host told) (worker_world post.Asking host told)
 idles host told idle turned idled =
     walk-idle WorkBy (worker_world post.Idling host told) (worker_world post.Asking host told) idle turned idled refl

@@ -10,7 +10,9 @@ pub mod SubscriptionExamples
 pub mod Filters
 pub mod Subscriptions
 pub mod FrameExamples
+pub mod ClientFrames
 pub mod Frames
+pub mod Sources
 pub mod Listening
 pub mod Sending
 pub mod Sessions

@@ -66,7 +66,7 @@ pub record CarriesOut (boot : ℕ) (world later : LinkWorld) (exchange : Exchang
 -- The next request was taken and came to its reply, which was written whole.
 pub record Serves (boot : ℕ) (world later : LinkWorld) (exchange : Exchange) : Type 0 where
   pub carries : CarriesOut boot world later exchange
-  pub replied : Takes world.sink later.sink (printed exchange.reply boot exchange.request.last)
+  pub replied : Takes world.sink later.sink (printed exchange.reply boot exchange.request)
 
 -- ---- ends
 
@@ -84,7 +84,7 @@ Stops boot end.ReadFault world later =
     Asks world later got.ReadFault × KeepsGate world later × (later.sink ≡ world.sink)
 Stops boot end.WriteFault world later =
     ((exchange : Exchange) × CarriesOut boot world later exchange
-    × BreaksOff world.sink later.sink (printed exchange.reply boot exchange.request.last))
+    × BreaksOff world.sink later.sink (printed exchange.reply boot exchange.request))
     ⊎ ((fault : HeadFault) × Asks world later (got.Malformed fault) × KeepsGate world later
     × BreaksOff world.sink later.sink (malformed_text fault))
 Stops boot end.NoMemory world later =
@@ -153,8 +153,8 @@ pub record Replies (boot : ℕ) (request : Request) (next : Turn) (sink sink' : 
   pub answered : PrintedReply
   pub how : Written
   pub reaches : Reaches (command_of request boot) gate gate' clock clock' reply
-  pub text : HasText answered reply boot request.last
-  pub writes : WritesAnswer how answered request.last sink sink'
+  pub text : HasText answered reply boot request
+  pub writes : WritesAnswer how answered request sink sink'
   pub next_is : next ≡ turn_after how request.last
 
 -- what is seen of a sink, of a gate and of a clock is as it was

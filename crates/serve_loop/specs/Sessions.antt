@@ -1,6 +1,7 @@
--- A session of events: it asks for the events of a filter, first from the next one on, and then from where it stands;
--- it idles once after each answer without any; and it sends each event that it got, in order.
-use Rattle.std.specs.Prelude.{◌≡◌, ◌≤◌, ◌+◌, ◌==◌, ◌++◌, ℕ, List, [], ◌∷◌, if◌then◌else◌}
+-- A session of events. It asks for the events of a filter, first from the next one on, and then from where it stands. It
+-- sends each event that it got, in order, and idles once where there is none. Before it asks again it looks once whether
+-- something came from its client, and answers each frame that did.
+use Rattle.std.specs.Prelude.{◌≡◌, ◌≤◌, ◌++◌, ℕ, List, [], ◌∷◌}
 use Rattle.std.specs.List.{flat_map}
 use Rattle.std.specs.Io.KnownBytes.{Appends}
 use Rattle.size_values.specs.Causes.{Rose}
@@ -16,79 +17,128 @@ use Rattle.gates.specs.Gates.{Between, Seen}
 use Rattle.gates.specs.History.{Item, idle, turn}
 use Rattle.gates.specs.rest_answers.specs.Links.{Outlet, Takes}
 use Rattle.rest_replies.specs.Notices.{notice_text}
-use Rattle.serve_loop.specs.Waits.{most_idles}
-use Rattle.serve_loop.specs.Frames.{accepting_head, close_frame, text_frame}
+use Rattle.serve_loop.specs.ClientFrames.{Next, answer_at, answer_text, malformed, next_in, payload_at, too_long}
+use Rattle.serve_loop.specs.ClientFrames.{unfinished, whole}
+use Rattle.serve_loop.specs.Frames.{accepting_head, away_frame, lagged_frame, text_frame}
+use Rattle.serve_loop.specs.Sources.{Feed, Look, LooksAt, broken, came, over, quiet}
+use Rattle.serve_loop.specs.declared.answering.FrameAnswer.{FrameAnswer}
+use Rattle.serve_loop.specs.declared.answering.FrameAnswer.TheVariants as reply
 use Rattle.serve_loop.specs.declared.session.SessionEnd.{SessionEnd}
 use Rattle.serve_loop.specs.declared.session.SessionEnd.TheVariants as end
 
--- Where a session stands: it is to ask for the events from this number on, after it idled so often without any; to
--- idle, before it asks so; or it asks no more, since it idled so often, since memory for an answer was refused, or
--- since some events are no longer kept.
+-- ---- what is done
+
+-- What is done in a session: a turn or an idle at the gate; a look at the source; or what stands next among the bytes
+-- that came is heard.
+pub data Doing : Type 0 where
+  at_gate : Item → Doing
+  looked : Look → Doing
+  heard : Next → Doing
+
+abbrev pub item_of : Doing → List Item
+item_of (at_gate item) = item ∷ []
+item_of (looked look) = []
+item_of (heard next) = []
+
+-- what was done at the gate, in its order
+abbrev pub items : List Doing → List Item
+items trail = flat_map item_of trail
+
+-- ---- where a session stands
+
+-- Where a session stands, which is to get the events from this number on and holds these bytes that came: it is to look
+-- at its source, to hear what came, to ask for events, or to idle; or it has ended.
 pub data SessionStage : Type 0 where
-  asking : ℕ → ℕ → SessionStage
-  idling : ℕ → ℕ → SessionStage
-  idled : SessionStage
-  refused : SessionStage
-  lagged : ℕ → ℕ → SessionStage
+  looking : ℕ → List ℕ → SessionStage
+  hearing : ℕ → List ℕ → SessionStage
+  asking : ℕ → List ℕ → SessionStage
+  idling : ℕ → List ℕ → SessionStage
+  ended : SessionEnd → SessionStage
 
--- where a session stands that got these events, after it idled so often
-abbrev pub after_notices : List Notice → ℕ → ℕ → SessionStage
-after_notices [] next idles = idling next idles
-after_notices (notice ∷ more) next idles = asking next 0
+-- after it got these events
+abbrev pub after_notices : List Notice → ℕ → List ℕ → SessionStage
+after_notices [] next held = idling next held
+after_notices (notice ∷ more) next held = looking next held
 
-abbrev pub after_fetched : Fetched → ℕ → SessionStage
-after_fetched (fetched.Notices notices next) idles = after_notices notices next idles
-after_fetched (fetched.Lagged cursor oldest) idles = lagged cursor oldest
+abbrev pub after_fetched : Fetched → List ℕ → SessionStage
+after_fetched (fetched.Notices notices next) held = after_notices notices next held
+after_fetched (fetched.Lagged cursor oldest) held = ended (end.Lagged cursor oldest)
 
--- where a session stands after this answer
-abbrev pub Brings : Answer → ℕ → SessionStage → Type 0
-Brings (answer.Fetched got) idles stage = stage ≡ after_fetched got idles
-Brings answer.NoMemory idles stage = stage ≡ refused
-Brings other idles stage = ⊥
+-- after this answer
+abbrev pub Brings : Answer → List ℕ → SessionStage → Type 0
+Brings (answer.Fetched got) held stage = stage ≡ after_fetched got held
+Brings answer.NoMemory held stage = stage ≡ ended end.NoMemory
+Brings other held stage = ⊥
 
--- where a session stands after it idled so often without an event
-abbrev pub after_idle : ℕ → ℕ → SessionStage
-after_idle next idles = if idles == most_idles then idled else asking next idles
+-- after a look at the source
+abbrev pub after_look : ℕ → List ℕ → Look → SessionStage
+after_look cursor held quiet = asking cursor held
+after_look cursor held (came bytes) = hearing cursor (held ++ bytes)
+after_look cursor held over = ended end.Ended
+after_look cursor held broken = ended end.ReadFault
+
+-- after an answer to a frame: a close is the end
+abbrev pub after_answer : ℕ → List ℕ → FrameAnswer → SessionStage
+after_answer cursor rest reply.Nothing = hearing cursor rest
+after_answer cursor rest reply.Pong = hearing cursor rest
+after_answer cursor rest (reply.Close code) = ended (end.Closed code)
+
+-- after it heard what stands next
+abbrev pub after_next : ℕ → List ℕ → Next → SessionStage
+after_next cursor held unfinished = asking cursor held
+after_next cursor held (whole header payload rest) = after_answer cursor rest (answer_at (whole header payload rest))
+after_next cursor held malformed = after_answer cursor held (answer_at malformed)
+after_next cursor held too_long = after_answer cursor held (answer_at too_long)
 
 -- what is done in a session where it stands
-abbrev pub ListenAt : Filter → SessionStage → Item → SessionStage → Type 0
-ListenAt filter (asking cursor idles) (turn an_event outcome answer) later =
-    (an_event ≡ event.Fetch cursor filter) × Brings answer idles later
-ListenAt filter (idling next idles) (idle events) later = later ≡ after_idle next (idles + 1)
-ListenAt filter other item later = ⊥
+abbrev pub ListenAt : Filter → SessionStage → Doing → SessionStage → Type 0
+ListenAt filter (asking cursor held) (at_gate (turn an_event outcome answer)) later =
+    (an_event ≡ event.Fetch cursor filter) × Brings answer held later
+ListenAt filter (idling next held) (at_gate (idle is_up events)) later = later ≡ looking next held
+ListenAt filter (looking cursor held) (looked look) later = later ≡ after_look cursor held look
+ListenAt filter (hearing cursor held) (heard next) later = (next ≡ next_in held) × (later ≡ after_next cursor held next)
+ListenAt filter other doing later = ⊥
+
+-- a look goes from what is seen of the source to what is seen of it then, and nothing else touches it
+abbrev pub SourceBy : Feed → Doing → Feed → Type 0
+SourceBy source (looked look) later = LooksAt source look later
+SourceBy source (at_gate item) later = later ≡ source
+SourceBy source (heard next) later = later ≡ source
 
 -- ---- what is written
-
--- the events of an answer
-abbrev pub got_in : Answer → List Notice
-got_in (answer.Fetched (fetched.Notices notices next)) = notices
-got_in other = []
-
-abbrev pub got_at : Item → List Notice
-got_at (turn event outcome answer) = got_in answer
-got_at (idle events) = []
-
--- the events that were got, in their order
-abbrev pub got : List Item → List Notice
-got history = flat_map got_at history
 
 -- events as frames, in their order
 abbrev pub frames_of : ℕ → List Notice → List ℕ
 frames_of boot notices = flat_map (λ notice. text_frame (notice_text notice boot)) notices
 
+-- each event that was got, or the close of a session that lags
+abbrev pub fetched_text : ℕ → Fetched → List ℕ
+fetched_text boot (fetched.Notices notices next) = frames_of boot notices
+fetched_text boot (fetched.Lagged cursor oldest) = lagged_frame
+
+abbrev pub told_text : ℕ → Answer → List ℕ
+told_text boot (answer.Fetched got) = fetched_text boot got
+told_text boot other = []
+
+-- What is written for what is done.
+abbrev pub said : ℕ → Doing → List ℕ
+said boot (at_gate (turn event outcome answer)) = told_text boot answer
+said boot (at_gate (idle is_up events)) = []
+said boot (looked over) = away_frame
+said boot (looked other) = []
+said boot (heard next) = answer_text (answer_at next) (payload_at next)
+
+abbrev pub said_along : ℕ → List Doing → List ℕ
+said_along boot trail = flat_map (said boot) trail
+
 -- The head, once something was asked.
-abbrev pub head_after : List Item → List ℕ → List ℕ
+abbrev pub head_after : List Doing → List ℕ → List ℕ
 head_after [] key = []
-head_after (item ∷ more) key = accepting_head key
+head_after (doing ∷ more) key = accepting_head key
 
--- a session that lags is closed
-abbrev pub close_at : SessionStage → List ℕ
-close_at (lagged cursor oldest) = close_frame
-close_at other = []
-
--- all that is written in a session that stands here, by what was done so far
-abbrev pub session_text : ℕ → List ℕ → List Item → SessionStage → List ℕ
-session_text boot key history stage = head_after history key ++ frames_of boot (got history) ++ close_at stage
+-- all that is written in a session, by what was done so far
+abbrev pub session_text : ℕ → List ℕ → List Doing → List ℕ
+session_text boot key trail = head_after trail key ++ said_along boot trail
 
 -- the sink took some first bytes of this text, and no others
 pub record TakesFront (sink sink' : Outlet) (text : List ℕ) : Type 0 where
@@ -100,19 +150,24 @@ pub record TakesFront (sink sink' : Outlet) (text : List ℕ) : Type 0 where
 
 -- ---- ends
 
--- a session that stands here may end so, and what its sink took of the text
+-- A session that stands here may end so, and what its sink took of the text: all of it where it lagged, was closed, or
+-- its source ended or failed; and some of it where a write failed or memory was refused.
 abbrev pub Ends : SessionEnd → SessionStage → Outlet → Outlet → List ℕ → Type 0
-Ends (end.Lagged cursor oldest) stage sink sink' text = (stage ≡ lagged cursor oldest) × Takes sink sink' text
-Ends end.Idled stage sink sink' text = (stage ≡ idled) × Takes sink sink' text
+Ends (end.Lagged cursor oldest) stage sink sink' text =
+    (stage ≡ ended (end.Lagged cursor oldest)) × Takes sink sink' text
+Ends (end.Closed code) stage sink sink' text = (stage ≡ ended (end.Closed code)) × Takes sink sink' text
+Ends end.Ended stage sink sink' text = (stage ≡ ended end.Ended) × Takes sink sink' text
+Ends end.ReadFault stage sink sink' text = (stage ≡ ended end.ReadFault) × Takes sink sink' text
 Ends end.WriteFault stage sink sink' text = TakesFront sink sink' text × Rose sink.failures sink'.failures
 Ends end.NoMemory stage sink sink' text = TakesFront sink sink' text
 
--- A session of this key and this filter: what was done at the gate, where it stands then, and how it ended there. The
--- boot word is that of the ids of operations.
-pub record Session (boot : ℕ) (key : List ℕ) (filter : Filter) (before : Seen) (sink : Outlet) (after : Seen)
-    (sink' : Outlet) (ends : SessionEnd) : Type 0 where
-  pub history : List Item
+-- A session of this key and this filter: what was done, where it stands then, and how it ended there. The boot word is
+-- that of the ids of operations.
+pub record Session (boot : ℕ) (key : List ℕ) (filter : Filter) (source : Feed) (before : Seen) (sink : Outlet)
+    (source' : Feed) (after : Seen) (sink' : Outlet) (ends : SessionEnd) : Type 0 where
+  pub trail : List Doing
   pub stage : SessionStage
-  pub gate : Between history before after
-  pub due : Chain (ListenAt filter) history (asking 0 0) stage
-  pub ended : Ends ends stage sink sink' (session_text boot key history stage)
+  pub due : Chain (ListenAt filter) trail (asking 0 []) stage
+  pub gate : Between (items trail) before after
+  pub read : Chain SourceBy trail source source'
+  pub written : Ends ends stage sink sink' (session_text boot key trail)

@@ -24,7 +24,7 @@ requests_of exchanges = map (λ exchange. exchange.request) exchanges
 
 -- the bytes of the replies, in their order
 abbrev pub printed_replies : ℕ → List Exchange → List ℕ
-printed_replies boot exchanges = flat_map (λ exchange. printed exchange.reply boot exchange.request.last) exchanges
+printed_replies boot exchanges = flat_map (λ exchange. printed exchange.reply boot exchange.request) exchanges
 
 -- what was done at the gate, in its order
 abbrev pub history_of : List Exchange → List Item

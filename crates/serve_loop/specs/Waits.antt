@@ -18,7 +18,7 @@ use Rattle.gates.specs.Moments.{IsRead}
 use Rattle.serve_loop.specs.Moments.{IsLate, deadline_by}
 use Rattle.serve_loop.specs.declared.wait.Waiting.{Waiting}
 
--- how often one wait idles at most
+-- how often one wait idles at most until the time of an idle is up
 abbrev pub most_idles : ℕ
 most_idles = 1000000
 
@@ -67,9 +67,23 @@ Sees op deadline idles (answer.NotYet number) stage = stage ≡ waiting op deadl
 Sees op deadline idles (answer.Ended number) stage = stage ≡ due op
 Sees op deadline idles other stage = ⊥
 
+-- How often a wait idled until the time was up, after one more idle. One that a bell ends does not count: an operation
+-- may be looked at any number of times.
+abbrev pub idles_after : Bool → ℕ → ℕ
+idles_after is_up idles = if is_up then idles + 1 else idles
+
 -- where a wait stands that idled so often: it is over where its deadline is reached, and after the most times
 abbrev pub after_idle : ℕ → Option ℕ → ℕ → Bool → CommandStage
 after_idle op deadline idles late = if late || idles == most_idles then due op else looking op deadline idles
+
+-- how often it idled, where it goes on
+abbrev pub goes_on : Bool → ℕ → Option ℕ
+goes_on late idles = if late || idles == most_idles then None else Some idles
+
+-- where a wait stands that goes on after it idled so often, or is over
+abbrev pub going_on : ℕ → Option ℕ → Option ℕ → CommandStage
+going_on op deadline (Some idles) = looking op deadline idles
+going_on op deadline None = due op
 
 -- a command was asked, at the clock's next reading
 pub record Asks (command : Command) (world : CommandWorld) (an_event : Event) (answer : Answer) (next : CommandWorld)
@@ -87,10 +101,10 @@ pub record Looks (op : ℕ) (deadline : Option ℕ) (idles : ℕ) (world : Comma
   pub sees : Sees op deadline idles answer next.stage
 
 -- it idled once more, and then the deadline was looked at
-pub record Idles (op : ℕ) (deadline : Option ℕ) (idles : ℕ) (world next : CommandWorld) : Type 0 where
+pub record Idles (op : ℕ) (deadline : Option ℕ) (idles : ℕ) (is_up : Bool) (world next : CommandWorld) : Type 0 where
   pub late : Bool
   pub clock : IsLate deadline world.clock late next.clock
-  pub stage : next.stage ≡ after_idle op deadline (idles + 1) late
+  pub stage : next.stage ≡ after_idle op deadline (idles_after is_up idles) late
 
 -- an operation was asked for in the project of the command, at the clock's next reading
 pub record Shows (command : Command) (op : ℕ) (world : CommandWorld) (an_event : Event) (answer : Answer)
@@ -107,7 +121,7 @@ abbrev pub DoneFor : Command → CommandStage → CommandWorld → Item → Comm
 DoneFor command unasked world (turn event outcome answer) next = Asks command world event answer next
 DoneFor command (looking op deadline idles) world (turn event outcome answer) next =
     Looks op deadline idles world event answer next
-DoneFor command (waiting op deadline idles) world (idle events) next = Idles op deadline idles world next
+DoneFor command (waiting op deadline idles) world (idle is_up events) next = Idles op deadline idles is_up world next
 DoneFor command (due op) world (turn event outcome answer) next = Shows command op world event answer next
 DoneFor command other world item next = ⊥
 

@@ -64,7 +64,7 @@ pub record Reports (number : ℕ) (call : HostCall) (worker : WorkerWorld) (an_e
 abbrev pub DoneAt : WorkerState → WorkerWorld → Item → WorkerWorld → Type 0
 DoneAt post.Asking worker (turn event outcome answer) next = Takes worker event answer next
 DoneAt (post.Busy number call) worker (turn event outcome answer) next = Reports number call worker event answer next
-DoneAt post.Idling worker (idle events) next = next ≡ worker_world post.Asking worker.host worker.clock
+DoneAt post.Idling worker (idle is_up events) next = next ≡ worker_world post.Asking worker.host worker.clock
 DoneAt other worker item next = ⊥
 
 -- one thing that a worker does

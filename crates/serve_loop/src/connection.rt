@@ -3,6 +3,7 @@ ghost use Rattle.gates.specs.Gates.{seen};
 ghost use Rattle.gates.specs.rest_answers.specs.Links.{inlet, outlet};
 ghost use Rattle.serve_loop.specs.Serving.{link_world};
 ghost use Rattle.serve_loop.specs.Connections.{Connects};
+ghost use Rattle.serve_loop.specs.Sources.{feed};
 
 use crate::link::{LinkEnd, serve_link};
 use crate::session::{SessionEnd, event_session};
@@ -36,13 +37,13 @@ pub fn serve_connection<T: Wait, G: Gate, S: Source, K: Sink, C: Clock>(
     ensures { Connects boot
         (link_world [] (inlet S.left S.ended S.failures source.old) (outlet K.held K.failures sink.old)
         (seen G.contents G.turned G.idled gate.old) (C.readings clock.old))
-        (inlet S.left S.ended S.failures source.new) (outlet K.held K.failures sink.new)
+        (feed S.left S.ended S.failures S.at_once source.new) (outlet K.held K.failures sink.new)
         (seen G.contents G.turned G.idled gate.new) (C.readings clock.new) result }
 {
     match serve_link(rt, alloc, gate, source, sink, clock, boot) {
         LinkEnd::Events(subscription) => {
             let Subscription { key, filter } = subscription;
-            let ends = event_session(rt, alloc, gate, sink, key.view(), &filter, boot);
+            let ends = event_session(rt, alloc, gate, source, sink, key.view(), &filter, boot);
             drop(key);
             drop(filter);
             ConnectionEnd::Session(ends)

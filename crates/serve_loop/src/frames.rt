@@ -1,8 +1,10 @@
 //! What an event session writes.
-ghost use Rattle.std.specs.Prelude.{◌≡◌, IfOk, string_bytes};
+ghost use Rattle.std.specs.Prelude.{◌≡◌, IfOk, None, string_bytes};
 ghost use Rattle.websocket.specs.Frame.{encode_frame};
 ghost use Rattle.gates.specs.rest_answers.specs.Links.{outlet};
-ghost use Rattle.serve_loop.specs.Frames.{accepting_head, close_frame, text_frame};
+ghost use Rattle.websocket.specs.Connection.{whole_header};
+ghost use Rattle.serve_loop.specs.ClientFrames.{close_frame, close_payload, pong_frame};
+ghost use Rattle.serve_loop.specs.Frames.{accepting_head, text_frame};
 ghost use Rattle.serve_loop.specs.Sending.{Sends, SendsFront};
 ghost use Rattle.serve_loop.specs.Sessions.{frames_of};
 ghost use Rattle.rest_replies.specs.Notices.{notice_text};
@@ -42,17 +44,12 @@ fn frame_of(alloc: Global, header: FrameHeader, payload: &[u8]) -> Result<Vec<u8
     }
 }
 
-/// Writes a text message in one frame, which is not masked (RFC 6455, section 5.6).
-#[tactic(auto, unfolding(crate::specs::Frames::text_frame))]
-pub fn send_text<K: Sink>(alloc: Global, sink: &mut K, text: &str) -> Written
-    ensures { Sends result (text_frame text.now) (outlet K.held K.failures sink.old)
-        (outlet K.held K.failures sink.new) }
+/// Writes one frame with this payload, which is not masked (RFC 6455, section 5.2).
+fn send_frame<K: Sink>(alloc: Global, sink: &mut K, opcode: OpCode, payload: &[u8]) -> Written
+    ensures { Sends result (encode_frame (whole_header opcode None) payload.now)
+        (outlet K.held K.failures sink.old) (outlet K.held K.failures sink.new) }
 {
-    match frame_of(
-        alloc,
-        FrameHeader::new(OpCode::Data(Data::Text), None),
-        text.as_bytes(),
-    ) {
+    match frame_of(alloc, FrameHeader::new(opcode, None), payload) {
         Ok(frame) => {
             let written = send(sink, &frame);
             drop(frame);
@@ -62,20 +59,47 @@ pub fn send_text<K: Sink>(alloc: Global, sink: &mut K, text: &str) -> Written
     }
 }
 
-/// Writes a close frame without a code, which is not masked (RFC 6455, section 5.5.1).
-#[tactic(auto, unfolding(crate::specs::Frames::close_frame))]
-pub fn send_close<K: Sink>(alloc: Global, sink: &mut K) -> Written
-    ensures { Sends result close_frame (outlet K.held K.failures sink.old)
+/// Writes a text message in one frame, which is not masked (RFC 6455, section 5.6).
+#[tactic(auto, unfolding(crate::specs::Frames::text_frame))]
+pub fn send_text<K: Sink>(alloc: Global, sink: &mut K, text: &str) -> Written
+    ensures { Sends result (text_frame text.now) (outlet K.held K.failures sink.old)
         (outlet K.held K.failures sink.new) }
 {
-    match frame_of(
-        alloc,
-        FrameHeader::new(OpCode::Control(Control::Close), None),
-        &[],
-    ) {
-        Ok(frame) => {
-            let written = send(sink, &frame);
-            drop(frame);
+    send_frame(alloc, sink, OpCode::Data(Data::Text), text.as_bytes())
+}
+
+/// Writes a pong with this payload, which is not masked (RFC 6455, section 5.5.3).
+#[tactic(auto, unfolding(crate::specs::ClientFrames::pong_frame))]
+pub fn send_pong<K: Sink>(alloc: Global, sink: &mut K, payload: &[u8]) -> Written
+    ensures { Sends result (pong_frame payload.now) (outlet K.held K.failures sink.old)
+        (outlet K.held K.failures sink.new) }
+{
+    send_frame(alloc, sink, OpCode::Control(Control::Pong), payload)
+}
+
+/// What a close frame says: its code, if it has one, and a reason after it (RFC 6455, section 5.5.1).
+fn close_payload(alloc: Global, code: Option<u16>, reason: &str) -> Result<Vec<u8>, NoMemory>
+    ensures { IfOk result (λ payload. payload.items ≡ close_payload code reason.now) }
+{
+    let mut payload = Vec::new(alloc);
+    if let Some(code) = code {
+        payload.extend_from_slice(&code.to_be_bytes())?;
+        payload.extend_from_slice(reason.as_bytes())?;
+    }
+    Ok(payload)
+}
+
+/// Writes a close frame with this code and this reason, or with neither, which is not masked (RFC 6455, section 5.5.1).
+/// A code has at most 123 bytes of reason after it.
+#[tactic(auto, unfolding(crate::specs::ClientFrames::close_frame))]
+pub fn send_close<K: Sink>(alloc: Global, sink: &mut K, code: Option<u16>, reason: &str) -> Written
+    ensures { Sends result (close_frame code reason.now) (outlet K.held K.failures sink.old)
+        (outlet K.held K.failures sink.new) }
+{
+    match close_payload(alloc, code, reason) {
+        Ok(payload) => {
+            let written = send_frame(alloc, sink, OpCode::Control(Control::Close), &payload);
+            drop(payload);
             written
         }
         Err(NoMemory) => Written::NoMemory,

@@ -3,12 +3,15 @@
 #![tactic(auto)]
 
 mod accepting;
+mod answering;
 mod connection;
 mod filters;
 mod frame_laws;
 mod frames;
+mod hearing;
 mod link;
 mod listening;
+mod looking;
 mod reply;
 mod session;
 mod subscription_laws;
@@ -17,11 +20,15 @@ mod wait;
 mod worker;
 
 pub use accepting::accept_text;
+pub use answering::{FrameAnswer, MOST_PAYLOAD, answer_to, frames_have_4_kib};
 pub use connection::{ConnectionEnd, serve_connection};
 pub use filters::event_filter;
-pub use frame_laws::{a_close_frame_has_two_bytes, a_short_text_frame, notices_by_example};
-pub use frames::{send_close, send_text};
-pub use gates::{AloneGate, Daemon, DaemonMachine, Gate, LockedGate};
+pub use frame_laws::{
+    a_close_frame_has_its_code, a_close_frame_without_a_code, a_short_pong_frame,
+    a_short_text_frame, notices_by_example,
+};
+pub use frames::{send_close, send_pong, send_text};
+pub use gates::{AloneGate, Bell, Daemon, DaemonMachine, Gate, LockedGate};
 pub use link::{LinkEnd, serve_link};
 pub use reply::reply_to;
 pub use session::{SessionEnd, event_session};

@@ -75,7 +75,8 @@ fn end_after(written: Written, fault: HeadFault) -> LinkEnd
 }
 
 /// Answers a request that subscribes to no events.
-fn answer_request<G: Gate, K: Sink, C: Clock>(
+fn answer_request<T: Wait, G: Gate, K: Sink, C: Clock>(
+    rt: &T,
     alloc: Global,
     router: &Router,
     gate: &mut G,
@@ -88,16 +89,17 @@ fn answer_request<G: Gate, K: Sink, C: Clock>(
         (outlet K.held K.failures sink.new) (seen G.contents G.turned G.idled gate.old)
         (seen G.contents G.turned G.idled gate.new) (C.readings clock.old) (C.readings clock.new) }
 {
-    let reply = reply_to(alloc, router, gate, clock, request, boot);
-    let answered = answer_for(alloc, &reply, boot, request.last);
+    let reply = reply_to(rt, alloc, router, gate, clock, request, boot);
+    let answered = answer_for(alloc, &reply, boot, request);
     drop(reply);
-    let written = write_answer(sink, &answered, request.last);
+    let written = write_answer(sink, &answered, request);
     drop(answered);
     turn_after(written, request.last)
 }
 
 /// A turn of a link at a request: it subscribes to events, or is answered.
-fn serve_request<G: Gate, K: Sink, C: Clock>(
+fn serve_request<T: Wait, G: Gate, K: Sink, C: Clock>(
+    rt: &T,
     alloc: Global,
     router: &Router,
     gate: &mut G,
@@ -112,13 +114,14 @@ fn serve_request<G: Gate, K: Sink, C: Clock>(
 {
     match subscription_of(alloc, request) {
         Ok(Some(subscription)) => Turn::Stop(LinkEnd::Events(subscription)),
-        Ok(None) => answer_request(alloc, router, gate, sink, clock, request, boot),
+        Ok(None) => answer_request(rt, alloc, router, gate, sink, clock, request, boot),
         Err(NoMemory) => Turn::Stop(LinkEnd::NoMemory),
     }
 }
 
 /// One turn of a link: takes the next message and answers it.
-fn serve_next<G: Gate, S: Source, K: Sink, C: Clock>(
+fn serve_next<T: Wait, G: Gate, S: Source, K: Sink, C: Clock>(
+    rt: &T,
     alloc: Global,
     router: &Router,
     buffer: &mut Buffer,
@@ -138,7 +141,7 @@ fn serve_next<G: Gate, S: Source, K: Sink, C: Clock>(
 {
     match read_request(alloc, buffer, source) {
         Got::Request(request) => {
-            let next = serve_request(alloc, router, gate, sink, clock, &request, boot);
+            let next = serve_request(rt, alloc, router, gate, sink, clock, &request, boot);
             buffer.reuse(request);
             next
         }
@@ -172,7 +175,7 @@ fn serve<T: Wait, G: Gate, S: Source, K: Sink, C: Clock>(
         result }
 {
     for _ in rt.forever() {
-        match serve_next(alloc, router, buffer, gate, source, sink, clock, boot) {
+        match serve_next(rt, alloc, router, buffer, gate, source, sink, clock, boot) {
             Turn::GoOn => {}
             Turn::Final => return LinkEnd::Ended,
             Turn::Stop(ends) => return ends,
@@ -224,7 +227,7 @@ fn serve_from_empty<T: Wait, G: Gate, S: Source, K: Sink, C: Clock>(
 /// replies (HTTP/1.1, RFC 9112, section 9), until one subscribes to events. There is no limit to
 /// their number. A request asks for its command once, and a wait is looked at, and the gate
 /// idles once after each look that shows its operation live: until it has ended, until the clock is
-/// at the deadline, or a million times. The boot word is that of the ids of operations.
+/// at the deadline, or until it idled a million times for the whole time of an idle. The boot word is that of the ids of operations.
 pub fn serve_link<T: Wait, G: Gate, S: Source, K: Sink, C: Clock>(
     rt: &T,
     alloc: Global,

@@ -12,9 +12,11 @@ use records::{Command, Reply};
 use rest_routes::Router;
 use size_values::NoMemory;
 use std::alloc::Global;
+use std::sync::Wait;
 
 /// Asks for a command. What a wait needs later is taken beforehand.
-fn carry_out<G: Gate, C: Clock>(
+fn carry_out<T: Wait, G: Gate, C: Clock>(
+    rt: &T,
     alloc: Global,
     gate: &mut G,
     clock: &mut C,
@@ -26,7 +28,7 @@ fn carry_out<G: Gate, C: Clock>(
         result }
 {
     match wait_of(alloc, &command) {
-        Ok(kept) => ask(gate, clock, command, kept),
+        Ok(kept) => ask(rt, gate, clock, command, kept),
         Err(NoMemory) => {
             drop(command);
             Reply::NoMemory
@@ -35,7 +37,8 @@ fn carry_out<G: Gate, C: Clock>(
 }
 
 /// Routes a request and asks for its command, at the next moment of the clock.
-pub fn reply_to<G: Gate, C: Clock>(
+pub fn reply_to<T: Wait, G: Gate, C: Clock>(
+    rt: &T,
     alloc: Global,
     router: &Router,
     gate: &mut G,
@@ -48,7 +51,7 @@ pub fn reply_to<G: Gate, C: Clock>(
         result }
 {
     match router.route(alloc, request, boot) {
-        Ok(command) => carry_out(alloc, gate, clock, command),
+        Ok(command) => carry_out(rt, alloc, gate, clock, command),
         Err(why) => refused_reply(why),
     }
 }

@@ -1,6 +1,6 @@
 //! How a command comes to its reply at a gate: the answer of a wait is held back while its
 //! operation is live.
-ghost use Rattle.std.specs.Prelude.{◌≡◌, ◌≢◌, ◌<◌, ◌+◌, true, IfOk, if◌then◌else◌, None, Some, Option, ℕ};
+ghost use Rattle.std.specs.Prelude.{◌≡◌, ◌≢◌, ◌<◌, ◌≤◌, true, IfOk, IfSome, if◌then◌else◌, None, Some, Option, ℕ};
 ghost use Rattle.size_values.specs.Moments.{moment_limit};
 ghost use Rattle.http_front.specs.Clocks.{Readings};
 ghost use Rattle.records.specs.Forms.{is_formed};
@@ -8,17 +8,18 @@ ghost use Rattle.records.specs.declared.commands.Command.{Command as CommandValu
 ghost use Rattle.gates.specs.Gates.{Walk, seen};
 ghost use Rattle.serve_loop.specs.Moments.{IsLate, deadline_by, deadline_of};
 ghost use Rattle.gates.specs.Answers.{IsForLooker};
-ghost use Rattle.serve_loop.specs.Waits.{Looked, ServeBy, after_idle, due};
+ghost use Rattle.serve_loop.specs.Waits.{Looked, ServeBy, due, goes_on, going_on, idles_after};
 ghost use Rattle.serve_loop.specs.Waits.{looking, most_idles, replied, command_world, unasked, wait_of, waiting};
 
-use gates::{Gate, ReplyOrWait, reply_of, reply_or_wait_of};
+use gates::{Bell, Gate, ReplyOrWait, reply_of, reply_or_wait_of};
 use http_front::Clock;
 use records::{Command, Reply, What};
 use row_machine::{Answer, Event};
 use size_values::{NoMemory, Text};
 use std::alloc::Global;
+use std::sync::Wait;
 
-/// How often one wait idles at most.
+/// How often one wait idles at most until the time of an idle is up.
 pub const MOST_IDLES: u32 = 1_000_000;
 
 /// The constant is the number that definitions speak of.
@@ -95,33 +96,74 @@ fn look<G: Gate>(gate: &mut G, number: u64) -> bool
     is_live(answer)
 }
 
-/// Idles once, and then looks at the deadline: whether it is reached.
-fn idle<G: Gate, C: Clock>(gate: &mut G, clock: &mut C, deadline: Option<u64>) -> bool
-    ensures { (c : CommandValue) (op : ℕ) (idles : ℕ) → Walk (ServeBy c)
+/// How often it idled until the time was up, after one more idle.
+fn idles_after(is_up: bool, idles: u32) -> u32
+    requires { idles < most_idles }
+    ensures is { result ≡ idles_after is_up idles }
+    ensures few { result ≤ most_idles }
+{
+    if is_up { idles + 1 } else { idles }
+}
+
+/// How often it idled, where a wait goes on that idled so often and whose deadline is reached or not.
+fn goes_on(late: bool, idles: u32) -> Option<u32>
+    requires { idles ≤ most_idles }
+    ensures is { result ≡ goes_on late idles }
+    ensures few { IfSome result (λ more. more < most_idles) }
+{
+    if late || idles == MOST_IDLES {
+        None
+    } else {
+        Some(idles)
+    }
+}
+
+/// Idles once, until the operation may have ended or a while is over, and then looks at the deadline:
+/// how often it idled until the time was up, where the wait goes on.
+fn idle<G: Gate, C: Clock>(
+    gate: &mut G,
+    clock: &mut C,
+    deadline: Option<u64>,
+    idles: u32,
+) -> Option<u32>
+    requires few { idles < most_idles }
+    ensures few { IfSome result (λ more. more < most_idles) }
+    ensures walks { (c : CommandValue) (op : ℕ) → Walk (ServeBy c)
         (seen G.contents G.turned G.idled gate.old) (seen G.contents G.turned G.idled gate.new)
         (command_world (waiting op deadline idles) (C.readings clock.old))
-        (command_world (after_idle op deadline (idles + 1) result) (C.readings clock.new)) }
+        (command_world (going_on op deadline result) (C.readings clock.new)) }
 {
-    gate.idle();
-    is_late(clock, deadline)
+    let is_up = gate.idle(Bell::Ends);
+    let late = is_late(clock, deadline);
+    goes_on(late, idles_after(is_up, idles))
 }
 
 /// Looks at an operation until it has ended, and idles once after each look that shows it live:
-/// until the deadline, and at most so often.
-fn wait_for<G: Gate, C: Clock>(gate: &mut G, clock: &mut C, number: u64, deadline: Option<u64>)
+/// until the deadline, and until it idled so often for the whole time of an idle. It may look any
+/// number of times.
+fn wait_for<T: Wait, G: Gate, C: Clock>(
+    rt: &T,
+    gate: &mut G,
+    clock: &mut C,
+    number: u64,
+    deadline: Option<u64>,
+)
     ensures { (c : CommandValue) → Walk (ServeBy c)
         (seen G.contents G.turned G.idled gate.old) (seen G.contents G.turned G.idled gate.new)
         (command_world (looking number deadline 0) (C.readings clock.old))
         (command_world (due number) (C.readings clock.new)) }
 {
-    for idles in 0..MOST_IDLES {
+    let mut idles = 0;
+    for _ in rt.forever() {
         if !look(gate, number) {
             return;
         }
-        if idle(gate, clock, deadline) {
-            return;
+        match idle(gate, clock, deadline, idles) {
+            Some(more) => idles = more,
+            None => return,
         }
     }
+    unreachable!()
 }
 
 /// Asks for an operation in a project.
@@ -141,7 +183,8 @@ fn show<G: Gate, C: Clock>(gate: &mut G, clock: &mut C, project: Text, number: u
 }
 
 /// Holds the answer of a wait back, and then asks for its operation.
-fn wait_and_show<G: Gate, C: Clock>(
+fn wait_and_show<T: Wait, G: Gate, C: Clock>(
+    rt: &T,
     gate: &mut G,
     clock: &mut C,
     wait: Waiting,
@@ -155,12 +198,13 @@ fn wait_and_show<G: Gate, C: Clock>(
         (command_world (replied result) (C.readings clock.new)) }
 {
     let Waiting { project, timeout } = wait;
-    wait_for(gate, clock, number, deadline_of(moment, timeout));
+    wait_for(rt, gate, clock, number, deadline_of(moment, timeout));
     show(gate, clock, project, number)
 }
 
 /// The same for what was kept of a command whose answer is held back: it is a wait.
-fn hold<G: Gate, C: Clock>(
+fn hold<T: Wait, G: Gate, C: Clock>(
+    rt: &T,
     gate: &mut G,
     clock: &mut C,
     kept: Option<Waiting>,
@@ -175,7 +219,7 @@ fn hold<G: Gate, C: Clock>(
         (command_world (replied result) (C.readings clock.new)) }
 {
     match kept {
-        Some(wait) => wait_and_show(gate, clock, wait, moment, number),
+        Some(wait) => wait_and_show(rt, gate, clock, wait, moment, number),
         None => unreachable!(),
     }
 }
@@ -183,7 +227,8 @@ fn hold<G: Gate, C: Clock>(
 /// Asks for a command, of which this was kept. The answer of a wait is held back until its
 /// operation has ended, its time is over, or it idled as often as it may, and is then what is told
 /// of that operation.
-pub(crate) fn ask<G: Gate, C: Clock>(
+pub(crate) fn ask<T: Wait, G: Gate, C: Clock>(
+    rt: &T,
     gate: &mut G,
     clock: &mut C,
     command: Command,
@@ -202,6 +247,6 @@ pub(crate) fn ask<G: Gate, C: Clock>(
             drop(kept);
             reply
         }
-        ReplyOrWait::Hold(number) => hold(gate, clock, kept, moment, number),
+        ReplyOrWait::Hold(number) => hold(rt, gate, clock, kept, moment, number),
     }
 }

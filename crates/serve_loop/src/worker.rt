@@ -7,7 +7,7 @@ ghost use Rattle.gates.specs.Answers.{IsForReporter, IsForTaker};
 ghost use Rattle.serve_loop.specs.Work.{Gets, GoesOn, WorkBy, worker_world};
 ghost use Rattle.serve_loop.specs.declared.worker.WorkerState.TheVariants as post_of;
 
-use gates::Gate;
+use gates::{Bell, Gate};
 use host_model::{Host, HostCall, perform};
 use http_front::Clock;
 use row_machine::{Answer, Event};
@@ -84,13 +84,13 @@ fn make_call<G: Gate, H: Host, C: Clock>(
     post_after_report(answer)
 }
 
-/// Idles once.
+/// Idles once, until a call may wait or a while is over.
 fn idle<G: Gate>(gate: &mut G)
     ensures { (host : Hosted) (clock : Readings) → Walk WorkBy
         (seen G.contents G.turned G.idled gate.old) (seen G.contents G.turned G.idled gate.new)
         (worker_world post_of.Idling host clock) (worker_world post_of.Asking host clock) }
 {
-    gate.idle();
+    let _ = gate.idle(Bell::Calls);
 }
 
 /// What a worker does at its post. It gives what it has to do then.

@@ -1,11 +1,17 @@
-ghost use Rattle.std.specs.Prelude.{◌≡◌, false};
+ghost use Rattle.std.specs.Prelude.{◌≡◌, false, IfOk};
 
 use crate::door::{Doors, DoorsFailed};
 use crate::link::Link;
-use http_front::{ReaderSource, WriterSink};
-use std::io::{ErrorKind, Read, Write};
+use crate::net_sink::NetSink;
+use crate::net_source::NetSource;
+use crate::open_door::OpenDoor;
+use crate::stop::Stop;
+use mio::Events;
+use size_values::NoMemory;
+use std::alloc::Global;
+use std::io::ErrorKind;
 use std::marker::Model;
-use std::net::{Ipv4Addr, Net, OpenListener, OpenStream, SocketAddr};
+use std::net::{Ipv4Addr, Net, SocketAddr, TcpListener, TcpStream};
 use std::time::Duration;
 
 /// What is told of doors to a person, and how long they rest after a failure.
@@ -27,59 +33,71 @@ pub struct LinkTimes {
     pub patience: Duration,
 }
 
-/// Doors over a port, which is listened on from the first accept on. They tell no links, and never answer that none is
-/// left. An accept fails only where the port can't be had.
+/// Doors over a port, which is listened on from the first accept on. They tell no links. None is left once the server
+/// stops. An accept fails only where the port can't be had.
 #[derive(Drop)]
-pub struct NetDoors<N: Net, E> {
+pub struct NetDoors<N, E> {
     net: N,
     address: SocketAddr,
-    listener: Option<N::Listener>,
+    door: Option<OpenDoor>,
     was_opened: bool,
     times: LinkTimes,
+    stop: Stop,
     events: E,
+    /// Room for what is told of the listener.
+    signs: Events,
     given: u64,
+    none_left: bool,
     faults: u64,
 }
 
-impl<N: Net, E> Model for NetDoors<N, E> {
-    ghost use Rattle.std.specs.Prelude.{false};
+impl<N, E> Model for NetDoors<N, E> {
     ghost use Rattle.serving.specs.Accepts.{Seen};
 
     ghost Value = { Seen };
 
-    ghost view = { λ d. record { given = d.given; none_left = false; failed = d.faults } };
+    ghost view = { λ d. record { given = d.given; none_left = d.none_left; failed = d.faults } };
+}
+
+impl<N: Net + Drop, E: DoorEvents + Drop> NetDoors<N, E> {
+    /// Doors over this port of 127.0.0.1, which are not open yet. Once the server stops, they give no link any more, and
+    /// the sources of the links that they gave end.
+    pub fn at(
+        net: N,
+        alloc: Global,
+        port: u16,
+        times: LinkTimes,
+        stop: Stop,
+        events: E,
+    ) -> Result<NetDoors<N, E>, NoMemory>
+        ensures { IfOk result (λ d. d ≡ record { given = 0; none_left = false; failed = 0 }) }
+    {
+        let signs = Events::with_capacity(alloc, 1)?;
+        Ok(NetDoors {
+            net,
+            address: SocketAddr::from((Ipv4Addr::LOCALHOST, port)),
+            door: None,
+            was_opened: false,
+            times,
+            stop,
+            events,
+            signs,
+            given: 0,
+            none_left: false,
+            faults: 0,
+        })
+    }
 }
 
 impl<N: Net, E: DoorEvents> NetDoors<N, E> {
-    /// Doors over this port of 127.0.0.1, which are not open yet.
-    pub fn at(net: N, port: u16, times: LinkTimes, events: E) -> NetDoors<N, E>
-        ensures { result ≡ record { given = 0; none_left = false; failed = 0 } }
+    /// Where the doors are, once a link was asked for; None where that can't be had.
+    pub fn address(&mut self) -> Option<SocketAddr>
+        ensures { self.new ≡ self.old }
     {
-        NetDoors {
-            net,
-            address: SocketAddr::from((Ipv4Addr::LOCALHOST, port)),
-            listener: None,
-            was_opened: false,
-            times,
-            events,
-            given: 0,
-            faults: 0,
-        }
-    }
-
-    /// Doors over a listener that stands.
-    pub fn over(net: N, listener: N::Listener, times: LinkTimes, events: E) -> NetDoors<N, E>
-        ensures { result ≡ record { given = 0; none_left = false; failed = 0 } }
-    {
-        NetDoors {
-            net,
-            address: SocketAddr::from((Ipv4Addr::LOCALHOST, 0)),
-            listener: Some(listener),
-            was_opened: true,
-            times,
-            events,
-            given: 0,
-            faults: 0,
+        self.open();
+        match &self.door {
+            Some(door) => door.address(),
+            None => None,
         }
     }
 
@@ -89,16 +107,19 @@ impl<N: Net, E: DoorEvents> NetDoors<N, E> {
     {
         if !self.was_opened {
             self.was_opened = true;
-            self.listener = self.net.bind(self.address).ok();
-            self.events.opened(self.listener.is_some());
+            self.door = OpenDoor::at(&self.net, self.address).ok();
+            self.events.opened(self.door.is_some());
         }
     }
 }
 
-impl<N: Net, E: DoorEvents> Doors for NetDoors<N, E> {
-    type Source = ReaderSource<N::Stream>;
+/// The ends of a connection: where its requests come from, and where its replies go.
+type NetLink = Link<NetSource<TcpStream>, NetSink<TcpStream>>;
 
-    type Sink = WriterSink<N::Stream>;
+impl<N: Net, E: DoorEvents> Doors for NetDoors<N, E> {
+    type Source = NetSource<TcpStream>;
+
+    type Sink = NetSink<TcpStream>;
 
     ghost use Rattle.std.specs.Prelude.{None};
 
@@ -108,18 +129,25 @@ impl<N: Net, E: DoorEvents> Doors for NetDoors<N, E> {
 
     fn accept(
         &mut self,
-    ) -> Result<Option<Link<ReaderSource<N::Stream>, WriterSink<N::Stream>>>, DoorsFailed> {
+    ) -> Result<Option<Link<NetSource<TcpStream>, NetSink<TcpStream>>>, DoorsFailed> {
         self.open();
-        match next_link(&self.listener, self.times, &mut self.events) {
-            Some(link) => {
-                self.given += 1;
-                Ok(Some(link))
-            }
-            None => {
-                self.faults = self.faults.saturating_add(1);
-                Err(DoorsFailed)
-            }
+        let next = next_link(
+            &mut self.door,
+            &mut self.signs,
+            self.times,
+            &self.stop,
+            &mut self.events,
+        );
+        match &next {
+            Ok(Some(_)) => self.given += 1,
+            Ok(None) => self.none_left = true,
+            Err(DoorsFailed) => self.faults = self.faults.saturating_add(1),
         }
+        if self.none_left {
+            // Who comes now is refused by the system.
+            self.door = None;
+        }
+        next
     }
 
     fn given(&self) -> u64 {
@@ -131,47 +159,82 @@ impl<N: Net, E: DoorEvents> Doors for NetDoors<N, E> {
     }
 }
 
-/// The next connection, as two handles of its stream. One of which a second handle can't be had is let go.
-fn next_link<T: OpenListener, E: DoorEvents>(
-    listener: &Option<T>,
+/// The next connection, or None once the server stops.
+fn next_link<E: DoorEvents>(
+    door: &mut Option<OpenDoor>,
+    signs: &mut Events,
     times: LinkTimes,
+    stop: &Stop,
     events: &mut E,
-) -> Option<Link<ReaderSource<T::Stream>, WriterSink<T::Stream>>>
-where
-    T::Stream: Read + Write + OpenStream + Drop,
-{
-    let listener = listener.as_ref()?;
+) -> Result<Option<NetLink>, DoorsFailed> {
+    let Some(door) = door else {
+        return Err(DoorsFailed);
+    };
     for _ in 0..u64::MAX {
-        match listener.accept() {
-            Ok((stream, _)) => match url_of(stream, times) {
-                Ok(link) => return Some(link),
-                Err(kind) => events.failed(kind),
-            },
+        if stop.is_set() {
+            return Ok(None);
+        }
+        match door.next(signs) {
+            Ok(Some(stream)) => return Ok(link_over(stream, times, stop, events)),
+            Ok(None) => {}
             Err(error) if breaks_off(error.kind()) => {}
             Err(error) => events.failed(error.kind()),
+        }
+    }
+    Err(DoorsFailed)
+}
+
+/// The two ends of a stream, once a second handle can be had for it; None where the server stops before that.
+fn link_over<E: DoorEvents>(
+    stream: TcpStream,
+    times: LinkTimes,
+    stop: &Stop,
+    events: &mut E,
+) -> Option<NetLink> {
+    // Each reply and each event is one write, which is not to wait for the client's answer to the one
+    // before. Where this can't be had, they are slower.
+    let _at_once = stream.set_nodelay(true);
+    let Handles {
+        twin,
+        at_source,
+        at_sink,
+    } = handles_for(&stream, stop, events)?;
+    Some(Link {
+        source: NetSource::new(twin, times.idle, at_source),
+        sink: NetSink::new(stream, times.patience, at_sink),
+    })
+}
+
+/// What the ends of a stream need besides it: a second handle, and two handles of the stop.
+struct Handles {
+    twin: TcpStream,
+    at_source: Stop,
+    at_sink: Stop,
+}
+
+/// These, once they can be had; None where the server stops before that.
+fn handles_for<E: DoorEvents>(stream: &TcpStream, stop: &Stop, events: &mut E) -> Option<Handles> {
+    for _ in 0..u64::MAX {
+        match handles_of(stream, stop) {
+            Ok(handles) => return Some(handles),
+            Err(kind) => events.failed(kind),
+        }
+        if stop.is_set() {
+            return None;
         }
     }
     None
 }
 
-/// The two handles of a stream.
-fn url_of<S: Read + Write + OpenStream + Drop>(
-    stream: S,
-    times: LinkTimes,
-) -> Result<Link<ReaderSource<S>, WriterSink<S>>, ErrorKind> {
-    // Where one of these can't be had, the client is waited for longer.
-    let _read = stream.set_read_timeout(Some(times.idle));
-    let _write = stream.set_write_timeout(Some(times.patience));
-    // Each reply and each event is one write, which is not to wait for the client's answer to the one
-    // before. Where this can't be had, they are slower.
-    let _at_once = stream.set_nodelay(true);
-    match stream.try_clone() {
-        Ok(twin) => Ok(Link {
-            source: ReaderSource::new(twin),
-            sink: WriterSink::new(stream),
-        }),
-        Err(error) => Err(error.kind()),
-    }
+fn handles_of(stream: &TcpStream, stop: &Stop) -> Result<Handles, ErrorKind> {
+    let at_source = stop.share().map_err(|_| ErrorKind::OutOfMemory)?;
+    let at_sink = stop.share().map_err(|_| ErrorKind::OutOfMemory)?;
+    let twin = stream.try_clone().map_err(|error| error.kind())?;
+    Ok(Handles {
+        twin,
+        at_source,
+        at_sink,
+    })
 }
 
 /// Whether an accept failed for the sake of one connection, or of a signal, and not of the listener.

@@ -79,6 +79,17 @@ const ASKING: &[(&str, &str, Want)] = &[
         "/1.0/events?colour=red&recursion=1&timeout=5",
         Events(true, true, "default"),
     ),
+    // The same in absolute form.
+    (
+        "GET",
+        "http://localhost/1.0/events?project=lab",
+        Events(true, true, "lab"),
+    ),
+    (
+        "GET",
+        "HTTPS://[::1]:8443/1.0/events?type=x",
+        Refused("type"),
+    ),
     // Bad queries.
     ("GET", "/1.0/events?type=", Refused("type")),
     ("GET", "/1.0/events?type=logging", Refused("type")),
@@ -99,7 +110,10 @@ const ASKING: &[(&str, &str, Want)] = &[
     ("GET", "/1.0/events?timeout=x", Refused("timeout")),
     // Requests for something else.
     ("POST", "/1.0/events", NoEvents),
+    ("HEAD", "/1.0/events", NoEvents),
     ("get", "/1.0/events", NoEvents),
+    ("GET", "ftp://localhost/1.0/events", NoEvents),
+    ("GET", "http:///1.0/events", NoEvents),
     ("GET", "/1.0/events/", NoEvents),
     ("GET", "/1.0/event", NoEvents),
     ("GET", "/1.0", NoEvents),

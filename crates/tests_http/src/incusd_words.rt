@@ -129,6 +129,21 @@ const NOT_READ: &[&str] = &[
     "|help",
     "|--version",
     "|--port=8443|--connections=4|--help",
+    "|--stop-at-end-of-input",
+    "|--port=8443|--stop-at-end-of-input=true",
+    "|--port=8443|--stop-at-end-of-input=",
+    "|--port=8443|--stop-at-end-of-input|true",
+    "|--port=8443|--stop-at-end-of-input|--stop-at-end-of-input",
+    "|--port=8443|--stop",
+];
+
+/// Lists of words, and whether the end of standard input stops the server by them.
+const STOPS: &[(&str, bool)] = &[
+    ("|--port=8443", false),
+    ("|--port=8443|--stop-at-end-of-input", true),
+    ("|--stop-at-end-of-input|--port|8443|--workers|1", true),
+    ("|--port=8443|--stop-at-end-of-input=true", false),
+    ("|--stop-at-end-of-input", false),
 ];
 
 /// Whether words say these numbers of connections and workers, or are not read.
@@ -187,6 +202,24 @@ fn are_said(alloc: Global, words: &str, says: Serves) -> bool {
     // One ticket for each connection at once and each worker, and one to close; these numbers are small.
     let tickets = at_once.saturating_add(workers).saturating_add(1);
     say(alloc, words, Some(numbers), port, kept, idle, tickets)
+}
+
+/// Whether the end of standard input stops the server by these words.
+fn stops(alloc: Global, words: &str) -> Option<bool> {
+    let words = owned(alloc, words).ok()?;
+    let setup = serve_setup_of(alloc, &words).ok();
+    drop(words);
+    let setup = setup?;
+    let stops = setup.stops;
+    drop(setup);
+    Some(stops)
+}
+
+#[test]
+fn a_flag_says_whether_the_end_of_input_stops(rt: HostRuntime) {
+    for (words, are) in STOPS {
+        assert!(rt; stops(rt.alloc(), words) == Some(*are), "{words}");
+    }
 }
 
 #[test]

@@ -3,7 +3,7 @@ ghost use Rattle.std.specs.Prelude.{None};
 
 use crate::links::{OwnGate, requests};
 use row_machine::{Answer, Event};
-use serve_loop::Gate;
+use serve_loop::{Bell, Gate};
 use std::alloc::Global;
 use std::sync::Wait;
 
@@ -48,15 +48,16 @@ impl<T: Wait> Gate for BusyGate<T> {
         answer
     }
 
-    fn idle(&mut self) {
+    fn idle(&mut self, bell: Bell) -> bool {
         if self.requests.is_empty() || self.idles >= WORKED {
             change(&self.rt, self.alloc, &mut self.inner);
         } else if self.idles == 0 {
             requests(&self.rt, self.alloc, &mut self.inner, self.requests);
         } else {
-            self.inner.idle();
+            self.inner.idle(bell);
         }
         self.idles = self.idles.saturating_add(1);
+        true
     }
 
     fn made(&self) -> u64 {

@@ -3,7 +3,7 @@ ghost use Rattle.std.specs.Prelude.{None};
 
 use host_model::{Host, HostCall, HostFailed};
 use row_machine::{Answer, Event};
-use serve_loop::Gate;
+use serve_loop::{Bell, Gate};
 use size_values::Or;
 use std::alloc::Global;
 use std::sync::atomic::{AtomicBool, AtomicU64, Ordering};
@@ -59,8 +59,8 @@ impl<G: Gate, T: Wait> Gate for HoldingGate<G, T> {
         answer
     }
 
-    fn idle(&mut self) {
-        self.inner.idle();
+    fn idle(&mut self, bell: Bell) -> bool {
+        self.inner.idle(bell)
     }
 
     fn made(&self) -> u64 {

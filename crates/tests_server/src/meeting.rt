@@ -9,7 +9,7 @@ use host_model::ModelHost;
 use http_front::StillClock;
 use record_keeper::MapKeeper;
 use row_machine::Event;
-use serve_loop::{DaemonMachine, Gate, LockedGate, work};
+use serve_loop::{Bell, DaemonMachine, Gate, LockedGate, work};
 use serving::LockedHost;
 use size_values::Seq;
 use std::alloc::Global;
@@ -167,7 +167,7 @@ fn cancels<T: Wait + Clock, G: Gate>(floor: &Floor<T>, gate: &mut G) -> bool {
             is_running = true;
             break;
         }
-        gate.idle();
+        gate.idle(Bell::Events);
     }
     let is_cancelled = is_served(
         &floor.rt,

@@ -50,7 +50,7 @@ pub(crate) fn text(alloc: Global, of: &str) -> Text {
 }
 
 /// The request of a line: the method, the target and the body, with a space between them.
-fn request_of(alloc: Global, line: &str) -> Request {
+pub(crate) fn request_of(alloc: Global, line: &str) -> Request {
     let (method, rest) = line.split_once(' ').unwrap_or((line, ""));
     let (target, body) = rest.split_once(' ').unwrap_or((rest, ""));
     Request {

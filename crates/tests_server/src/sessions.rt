@@ -1,5 +1,6 @@
 //! What a session of events sends.
 use crate::busy_gate::BusyGate;
+use crate::client::{Client, Piece};
 use crate::links::{OwnGate, POOL, new_gate, requests};
 use crate::server::text;
 use http_front::ByteSink;
@@ -10,13 +11,18 @@ use std::alloc::Global;
 use std::sync::Wait;
 
 /// The head that accepts the key of RFC 6455, section 1.3.
-const HEAD: &str =
+pub(crate) const HEAD: &str =
     "HTTP/1.1 101 Switching Protocols\r\nUpgrade: websocket\r\nConnection: Upgrade\r\nSec-WebSocket-Accept: s3pPLMBiTxaQ9kYGzzhZRbK+xOo=\r\n\r\n";
 
-/// A close frame.
-const CLOSE: &[u8] = &[0x88, 0];
+/// A close frame with the code 1008.
+const CLOSE: &[u8] = b"\x88\x1c\x03\xf0lagged: events were missed";
 
-const KEY: &str = "dGhlIHNhbXBsZSBub25jZQ==";
+/// An empty ping of a client, and the pong to it.
+const PING: Piece = Piece::Bytes(&[0x89, 0x80, 0, 0, 0, 0]);
+
+const PONG: &[u8] = &[0x8a, 0];
+
+pub(crate) const KEY: &str = "dGhlIHNhbXBsZSBub25jZQ==";
 
 const NOTHING: &str = "";
 
@@ -90,9 +96,10 @@ fn frame_head(length: usize) -> [u8; 4] {
     [0x81, 126, (length / 256 % 256) as u8, (length % 256) as u8]
 }
 
-/// Whether bytes are the head, these messages, and a close frame.
-fn are_sent(bytes: &[u8], texts: &[&str]) -> bool {
+/// Whether bytes are the head, this, these messages, and a close frame.
+fn are_sent(bytes: &[u8], first: &[u8], texts: &[&str]) -> bool {
     let mut rest = after(Some(bytes), HEAD.as_bytes());
+    rest = after(rest, first);
     for text in texts {
         rest = after(rest, &frame_head(text.len()));
         rest = after(rest, text.as_bytes());
@@ -117,6 +124,7 @@ fn listened<T: Wait + Copy>(
     alloc: Global,
     inner: OwnGate,
     requests: &'static str,
+    script: &'static [Piece],
     filter: Filter,
 ) -> (SessionEnd, ByteSink) {
     let mut gate = BusyGate {
@@ -128,22 +136,41 @@ fn listened<T: Wait + Copy>(
         idles: 0,
     };
     let mut sink = ByteSink::new(alloc, Seq::new(alloc));
-    let ends = event_session(&rt, alloc, &mut gate, &mut sink, KEY, &filter, 1);
+    let mut source = Client::new(script);
+    let ends = event_session(
+        &rt,
+        alloc,
+        &mut gate,
+        &mut source,
+        &mut sink,
+        KEY,
+        &filter,
+        1,
+    );
+    drop(source);
     drop(filter);
     drop(gate);
     (ends, sink)
 }
 
-/// Whether a session that takes these events sends these messages and then lags so.
-fn is_told<T: Wait + Copy>(rt: T, alloc: Global, session: &Session) -> bool {
+/// Whether a session that takes these events sends this and then these messages, and then lags so.
+fn is_told<T: Wait + Copy>(
+    rt: T,
+    alloc: Global,
+    session: &Session,
+    script: &'static [Piece],
+    first: &[u8],
+) -> bool {
     let (before, requests, life, op, texts, cursor) = *session;
     let Some(inner) = gate_after(&rt, alloc, before) else {
         return false;
     };
     let project = text(alloc, "default");
-    let (ends, sink) = listened(rt, alloc, inner, requests, Filter { life, op, project });
+    let filter = Filter { life, op, project };
+    let (ends, sink) = listened(rt, alloc, inner, requests, script, filter);
     let oldest = cursor.wrapping_add(1);
-    let is_so = ends == SessionEnd::Lagged { cursor, oldest } && are_sent(sink.bytes(), texts);
+    let is_so = ends == SessionEnd::Lagged { cursor, oldest }
+        && are_sent(sink.bytes(), first, texts);
     drop(sink);
     is_so
 }
@@ -152,7 +179,21 @@ fn is_told<T: Wait + Copy>(rt: T, alloc: Global, session: &Session) -> bool {
 fn sessions_send_what_is_told(rt: HostRuntime) {
     for session in SESSIONS {
         assert!(rt;
-            is_told(rt, rt.alloc(), session),
+            is_told(rt, rt.alloc(), session, &[], &[]),
+            "{} {} {} {}",
+            session.0,
+            session.1,
+            session.2,
+            session.3
+        );
+    }
+}
+
+#[test]
+fn no_event_is_left_out_after_a_ping(rt: HostRuntime) {
+    for session in SESSIONS {
+        assert!(rt;
+            is_told(rt, rt.alloc(), session, &[PING], PONG),
             "{} {} {} {}",
             session.0,
             session.1,

@@ -2,10 +2,10 @@
 ghost use Rattle.std.specs.Prelude.{◌≡◌, IfSome};
 
 use http_front::{Sink, Source};
-use serving::{DoorEvents, Doors, LinkTimes, NetDoors};
+use serving::{DoorEvents, Doors, LinkTimes, NetDoors, Stop};
 use std::alloc::Global;
 use std::io::{ErrorKind, Read, Write};
-use std::net::{Ipv4Addr, Net, OpenListener, Shutdown, SocketAddr, TcpListener, TcpStream};
+use std::net::{Net, Shutdown, SocketAddr, TcpListener, TcpStream};
 use std::thread::{Threads, join};
 use std::time::Duration;
 
@@ -23,18 +23,20 @@ impl DoorEvents for Silent {
 }
 
 /// Doors on a free port, and where they are.
-fn open<R: Net<Listener = TcpListener, Stream = TcpStream> + Copy>(
+fn open<R: Net + Copy + Drop>(
     rt: &R,
+    alloc: Global,
+    stop: Stop,
 ) -> Option<(NetDoors<R, Silent>, SocketAddr)>
     ensures { IfSome result (λ o. o.0.given ≡ 0) }
 {
-    let listener = rt.bind(SocketAddr::from((Ipv4Addr::LOCALHOST, 0))).ok()?;
-    let address = listener.local_addr().ok()?;
     let times = LinkTimes {
         idle: Duration::from_millis(PATIENCE),
         patience: Duration::from_millis(PATIENCE),
     };
-    Some((NetDoors::over(*rt, listener, times, Silent), address))
+    let mut doors = NetDoors::at(*rt, alloc, 0, times, stop, Silent).ok()?;
+    let address = doors.address()?;
+    Some((doors, address))
 }
 
 /// Accepts one link and writes back the first bytes that come. How many they were, and how many accepts failed.
@@ -71,16 +73,17 @@ fn ask<R: Net<Listener = TcpListener, Stream = TcpStream>>(
 
 fn client_and_answer<
     R: Net<Listener = TcpListener, Stream = TcpStream> + Threads + Copy + Drop + Send + Sync,
->(rt: &R) -> Option<((usize, u64), Option<[u8; 5]>)> {
-    let (doors, address) = open(rt)?;
+>(rt: &R, alloc: Global) -> Option<((usize, u64), Option<[u8; 5]>)> {
+    let (doors, address) = open(rt, alloc, Stop::new(alloc).ok()?)?;
     Some(join(rt, move || answer_once(doors), || ask(rt, address)))
 }
 
 /// A client that goes before it is accepted: the links given, the accepts failed, and whether the link gave no byte.
 fn gone<R: Net<Listener = TcpListener, Stream = TcpStream> + Copy + Drop>(
     rt: &R,
+    alloc: Global,
 ) -> Option<(u64, u64, bool)> {
-    let (mut doors, address) = open(rt)?;
+    let (mut doors, address) = open(rt, alloc, Stop::new(alloc).ok()?)?;
     drop(rt.connect(address).ok()?);
     let none = match doors.accept() {
         Ok(Some(link)) => gives_none(link.source),
@@ -99,7 +102,7 @@ fn asleep<R: Net<Listener = TcpListener, Stream = TcpStream> + Copy + Drop>(
     rt: &R,
     alloc: Global,
 ) -> Option<(u64, u64)> {
-    let (mut doors, address) = open(rt)?;
+    let (mut doors, address) = open(rt, alloc, Stop::new(alloc).ok()?)?;
     let client = rt.connect(address).ok()?;
     let failed = match doors.accept() {
         Ok(Some(link)) => writes_failed(alloc, link.sink)?,
@@ -121,8 +124,11 @@ fn writes_failed<K: Sink + Drop>(alloc: Global, mut sink: K) -> Option<u64> {
 }
 
 /// A client that never sends: its link gives no byte once it was idle for long enough.
-fn idle<R: Net<Listener = TcpListener, Stream = TcpStream> + Copy + Drop>(rt: &R) -> Option<bool> {
-    let (mut doors, address) = open(rt)?;
+fn idle<R: Net<Listener = TcpListener, Stream = TcpStream> + Copy + Drop>(
+    rt: &R,
+    alloc: Global,
+) -> Option<bool> {
+    let (mut doors, address) = open(rt, alloc, Stop::new(alloc).ok()?)?;
     let client = rt.connect(address).ok()?;
     let none = match doors.accept() {
         Ok(Some(link)) => gives_none(link.source),
@@ -132,15 +138,79 @@ fn idle<R: Net<Listener = TcpListener, Stream = TcpStream> + Copy + Drop>(rt: &R
     Some(none)
 }
 
+/// What the source of a link is, looked at from outside.
+#[derive(Clone, Copy, PartialEq, Eq)]
+struct Looks {
+    is_ready_empty: bool,
+    is_ready_sent: bool,
+    is_ready_stopped: bool,
+    first: Option<usize>,
+    last: Option<usize>,
+}
+
+/// A client that sends three bytes and stays, and a server that then stops: whether its source is ready before the bytes
+/// come, once they have come, and once the server stops; and what its reads give then.
+fn stopped<R: Net<Listener = TcpListener, Stream = TcpStream> + Copy + Drop>(
+    rt: &R,
+    alloc: Global,
+) -> Option<Looks> {
+    let stop = Stop::new(alloc).ok()?;
+    let (mut doors, address) = open(rt, alloc, stop.share().ok()?)?;
+    let mut client = rt.connect(address).ok()?;
+    let looks = match doors.accept() {
+        Ok(Some(link)) => Some(looked_at(link.source, &mut client, &stop)?),
+        _ => None,
+    };
+    drop(client);
+    looks
+}
+
+fn looked_at<S: Source + Drop, W: Write>(
+    mut source: S,
+    client: &mut W,
+    stop: &Stop,
+) -> Option<Looks> {
+    let mut piece = [0u8; 16];
+    let is_ready_empty = source.is_ready();
+    client.write_all(b"abc").ok()?;
+    let is_ready_sent = source.is_ready();
+    stop.set();
+    let first = source.read(&mut piece).ok();
+    let is_ready_stopped = source.is_ready();
+    let last = source.read(&mut piece).ok();
+    Some(Looks {
+        is_ready_empty,
+        is_ready_sent,
+        is_ready_stopped,
+        first,
+        last,
+    })
+}
+
+#[test]
+fn a_source_shows_what_a_read_gives(rt: HostRuntime) {
+    assert!(rt;
+        stopped(&rt, rt.alloc())
+            == Some(Looks {
+                is_ready_empty: false,
+                is_ready_sent: true,
+                is_ready_stopped: true,
+                first: Some(3),
+                last: Some(0),
+            }),
+        "bytes at once, and then the end"
+    );
+}
+
 #[test]
 fn a_client_that_never_sends_is_let_go(rt: HostRuntime) {
-    assert!(rt; idle(&rt) == Some(true), "its read ends");
+    assert!(rt; idle(&rt, rt.alloc()) == Some(true), "its read ends");
 }
 
 #[test]
 fn a_client_is_answered(rt: HostRuntime) {
     assert!(rt;
-        client_and_answer(&rt) == Some(((5, 0), Some(*b"hello"))),
+        client_and_answer(&rt, rt.alloc()) == Some(((5, 0), Some(*b"hello"))),
         "five bytes, there and back"
     );
 }
@@ -148,7 +218,7 @@ fn a_client_is_answered(rt: HostRuntime) {
 #[test]
 fn a_client_that_has_gone_is_a_link(rt: HostRuntime) {
     assert!(rt;
-        gone(&rt) == Some((1, 0, true)),
+        gone(&rt, rt.alloc()) == Some((1, 0, true)),
         "one link, and no failure of the doors"
     );
 }

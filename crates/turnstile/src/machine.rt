@@ -1,3 +1,8 @@
+ghost use Rattle.std.specs.Prelude.{◌≡◌};
+ghost use Rattle.turnstile.specs.declared.bells.Rings.{Rings as RingsValue};
+
+use crate::bells::Rings;
+
 /// What takes one event after the other, and answers each.
 pub trait Machine {
     type Event;
@@ -10,11 +15,12 @@ pub trait Machine {
     // Which answers it may give to an event, from some state that has its type's facts.
     ghost may_answer: { Self.Event → Self.Answer → Type 0 };
 
-    /// Takes one event and answers it.
-    fn turn(&mut self, event: Self::Event) -> Self::Answer
-        requires { takes event }
-        ensures { may_answer event result };
+    // Which bells ring after an event with its answer: those of all that wait for what it may have brought about.
+    ghost rung: { Self.Event → Self.Answer → RingsValue };
 
-    /// Whether what others wait for may have come about by this event: those that idle are then woken.
-    fn wakes(event: &Self::Event) -> bool;
+    /// Takes one event and answers it, and says which bells ring.
+    fn turn(&mut self, event: Self::Event) -> (Self::Answer, Rings)
+        requires { takes event }
+        ensures answer { may_answer event result.0 }
+        ensures rings { result.1 ≡ rung event result.0 };
 }

@@ -1,18 +1,20 @@
 ghost use Rattle.std.specs.Prelude.{◌≡◌, ◌+◌, ◌≤◌, All, IfErr, IfOk, length, sum_by};
 
+use crate::bells::{Bell, Bells};
 use crate::counted::Counted;
 use crate::machine::Machine;
 use crate::ticket::{Ticket, gathered, tickets_of};
 use std::alloc::Global;
 use std::sync::ledger::{Blank, Ledger};
-use std::sync::{Condvar, Mutex, Wait};
+use std::sync::{Mutex, Wait};
 use std::time::{Clock, Duration};
 
-/// One machine under one lock. It is turned by tickets alone, which `new` gives once and for all.
+/// One machine under one lock. It is turned by tickets alone, which `new` gives once and for all. Those who wait for
+/// something that a turn may bring about are woken by a bell, which rings after the turns that may have.
 #[derive(Drop)]
 pub struct Turnstile<M, L: Ledger> {
     counted: Mutex<Counted<M, L>>,
-    woken: Condvar,
+    bells: Bells,
 }
 
 impl<M: Machine, L: Ledger> Turnstile<M, L> {
@@ -35,7 +37,7 @@ impl<M: Machine, L: Ledger> Turnstile<M, L> {
         };
         let turnstile = Turnstile {
             counted: Mutex::new(Counted::new(machine, book)),
-            woken: Condvar::new(),
+            bells: Bells::new(),
         };
         Ok((turnstile, all))
     }
@@ -47,29 +49,33 @@ impl<M: Machine, L: Ledger> Turnstile<M, L> {
         ensures made { ticket.new.made ≡ ticket.old.made + 1 }
         ensures seen { ticket.new.made ≤ ticket.new.seen }
     {
-        let wakes = M::wakes(&event);
         let mut counted = self.counted.lock(rt);
         if counted.turns() == u64::MAX {
             for _ in rt.forever() {}
             unreachable!();
         }
-        let answer = counted.step(ticket, event, wakes);
+        let (answer, rings) = counted.step(ticket, event);
         drop(counted);
-        if wakes {
-            self.woken.notify_all();
-        }
+        self.bells.ring(rings);
         answer
     }
 
-    /// Waits until the machine has taken an event that wakes since this ticket last turned it, or for so many
-    /// milliseconds, or less.
-    pub fn idle<R: Wait + Clock>(&self, rt: &R, ticket: &Ticket<L>, ticks: u32) {
+    /// Waits until this bell has rung since this ticket last turned the machine, or for so many milliseconds: whether
+    /// this time was up. It may end sooner than either.
+    pub fn idle<R: Wait + Clock>(
+        &self,
+        rt: &R,
+        ticket: &Ticket<L>,
+        bell: Bell,
+        ticks: u32,
+    ) -> bool {
         let counted = self.counted.lock(rt);
-        if counted.has_woken_since(ticket.seen()) {
-            return;
+        if counted.has_rung_since(bell, ticket.seen()) {
+            return false;
         }
         let most = Duration::from_millis(u64::from(ticks));
-        let _ = self.woken.wait_timeout(rt, counted, most);
+        let (_, told) = self.bells.of(bell).wait_timeout(rt, counted, most);
+        told.timed_out()
     }
 
     /// How many turns the machine made, which is what all of its tickets made. All that `new` gave are handed in.

@@ -9,4 +9,5 @@ returns c =
     let at_once = more _ _ _ _ (more _ _ _ _ port c.in_ok-program-2.ensures) c.in_ok-program-3.ensures in
     let idle = more _ _ _ _ (more _ _ _ _ at_once c.in_ok-program-4.ensures) c.in_ok-program-5.ensures in
     let before = more _ _ _ _ idle c.in_ok-program-6.ensures in
-    IfOk-weaker c.with_option-6.result _ _ (λ made adds. program_is made (more _ _ _ made before adds)) c.with_option-6.ensures
+    let files = more _ _ _ _ before c.in_ok-program-7.ensures in
+    IfOk-weaker c.with_flag.result _ _ (λ made adds. program_is made (more _ _ _ made files adds)) c.with_flag.ensures

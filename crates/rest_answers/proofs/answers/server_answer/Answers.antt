@@ -1,10 +1,12 @@
-use Rattle.std.proofs.Common.{◌∙◌}
-use Rattle.rest_answers.specs.Texts.{printed}
+use Rattle.std.proofs.Common.{sym, ◌∙◌}
+use Rattle.records.specs.declared.replies.Reply.TheVariants as reply
+use Rattle.records.specs.declared.replies.View.TheVariants as view
+use Rattle.rest_answers.proofs.Printing.{whole_printed}
 use Rattle.rest_answers.proofs.answers.server_answer.Goals as goal
 
 pub returns-clause-text : goal.returns-clause-text
-unfolding printed
-returns-clause-text c = λ boot. c.ready.ensures ∙ c.server_text.ensures boot
+returns-clause-text c = λ boot request stays by_get.
+    c.ready.ensures ∙ c.server_text.ensures boot ∙ sym (whole_printed (reply.One view.Server) boot request stays by_get)
 
 pub returns-clause-printed : goal.returns-clause-printed
 returns-clause-printed c = λ none. none

@@ -1,6 +1,6 @@
 use Rattle.std.proofs.Common.{◌≡◌, get_or, rules}
 use Rattle.serve_loop.specs.Frames.{text_frame}
-use Rattle.serve_loop.proofs.Hearing.{front_at}
+use Rattle.serve_loop.proofs.SessionParts.{front_at}
 use Rattle.serve_loop.proofs.Taking.{front_broken, front_same, rose_after}
 use Rattle.rest_replies.specs.Notices.{notice_text}
 use Rattle.serve_loop.proofs.frames.send_notices.Goals as goal

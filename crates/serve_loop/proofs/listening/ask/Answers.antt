@@ -1,5 +1,5 @@
 use Rattle.gates.proofs.Answering.{for_listener}
-use Rattle.serve_loop.proofs.Hearing.{asks_err, asks_ok}
+use Rattle.serve_loop.proofs.SessionParts.{asks_err, asks_ok}
 use Rattle.serve_loop.proofs.listening.ask.Goals as goal
 
 pub fetched_in-requires : goal.fetched_in-requires

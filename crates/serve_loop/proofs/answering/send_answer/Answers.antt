@@ -1,0 +1,5 @@
+use Rattle.serve_loop.proofs.Taking.{takes_nothing}
+use Rattle.serve_loop.proofs.answering.send_answer.Goals as goal
+
+pub returns-in-Nothing : goal.returns-in-Nothing
+returns-in-Nothing g c = takes_nothing _

@@ -1,8 +1,0 @@
-use Rattle.std.proofs.Common.{refl}
-use Rattle.websocket.specs.FrameHeader.{encode_header}
-use Rattle.serve_loop.specs.Frames.{close_frame}
-use Rattle.serve_loop.proofs.frame_laws.a_close_frame_has_two_bytes.Goals as goal
-
-pub returns : goal.returns
-unfolding close_frame encode_header
-returns c = refl
