@@ -118,7 +118,7 @@ class Listener(Reader):
 def event_in(text):
     """An event by its text, which has to have the members that are due."""
     event = json.loads(text)
-    need(list(event) == ["metadata", "project", "timestamp", "type"], f"the members of {event}")
+    need(list(event) == ["metadata", "number", "project", "timestamp", "type"], f"the members of {event}")
     if event["type"] == "lifecycle":
         need(list(event["metadata"]) == ["action", "source"], f"the members of {event}")
     else:

@@ -8,7 +8,7 @@ use Rattle.records.specs.declared.notices.Notice.{Notice}
 use Rattle.serde_json.specs.Data.{Data, string}
 use Rattle.serde_json.specs.Written.{compact_text}
 use Rattle.rest_json.specs.Moments.{moment_text}
-use Rattle.rest_json.specs.Objects.{object_of}
+use Rattle.rest_json.specs.Objects.{object_of, whole}
 use Rattle.rest_json.specs.Operations.{operation_data}
 
 -- how an action is written
@@ -66,6 +66,7 @@ event_data boot (body.Op operation) = operation_data boot operation
 unfoldable pub notice_data : ℕ → Notice → Data
 notice_data boot notice = object_of (
     (codes "metadata", event_data boot notice.body)
+    ∷ (codes "number", whole notice.number)
     ∷ (codes "project", string notice.project)
     ∷ (codes "timestamp", string (moment_text notice.moment))
     ∷ (codes "type", string (event_type notice.body))

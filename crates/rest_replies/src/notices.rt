@@ -87,6 +87,7 @@ fn notice_value(alloc: Global, notice: &Notice, boot: u64) -> Result<Value, NoMe
     let metadata = event_value(alloc, boot, &notice.body)?;
     let object = Object::new(alloc)
         .with("metadata", metadata)?
+        .with_number("number", notice.number)?
         .with_text("project", notice.project.view())?
         .with_moment("timestamp", notice.moment)?
         .with_text("type", event_type(&notice.body))?;

@@ -25,7 +25,7 @@ started = record {
 abbrev pub started_text : List ℕ
 started_text =
     codes "{\"metadata\":{\"action\":\"instance-started\",\"source\":\"/1.0/instances/b?project=lab\"},"
-    ++ codes "\"project\":\"lab\",\"timestamp\":\"1970-01-01T00:00:00Z\",\"type\":\"lifecycle\"}"
+    ++ codes "\"number\":1,\"project\":\"lab\",\"timestamp\":\"1970-01-01T00:00:00Z\",\"type\":\"lifecycle\"}"
 
 -- an operation that makes it was accepted
 abbrev pub accepted : Notice
@@ -50,7 +50,7 @@ accepted_text =
     codes "{\"metadata\":{\"class\":\"task\",\"created_at\":\"1970-01-02T00:00:00Z\",\"err\":\"\","
     ++ codes "\"id\":\"00000000-0001-8000-8000-000000000002\",\"may_cancel\":true,\"metadata\":null,"
     ++ codes "\"resources\":{\"instances\":[\"/1.0/instances/b?project=lab\"]},\"status\":\"Pending\","
-    ++ codes "\"status_code\":105,\"updated_at\":\"1970-01-02T00:00:00Z\"},\"project\":\"lab\","
+    ++ codes "\"status_code\":105,\"updated_at\":\"1970-01-02T00:00:00Z\"},\"number\":2,\"project\":\"lab\","
     ++ codes "\"timestamp\":\"1970-01-02T00:00:00Z\",\"type\":\"operation\"}"
 
 -- each has its text where the boot word is 1

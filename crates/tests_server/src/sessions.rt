@@ -33,19 +33,19 @@ const CANCELLED_CREATION: &str =
     "POST /1.0/instances HTTP/1.1\r\nHost: localhost\r\nContent-Length: 37\r\n\r\n{\"name\":\"a\",\"source\":{\"type\":\"none\"}}DELETE /1.0/operations/00000000-0001-8000-8000-000000000001 HTTP/1.1\r\nHost: localhost\r\n\r\n";
 
 const PENDING: &str =
-    "{\"metadata\":{\"class\":\"task\",\"created_at\":\"1970-01-01T00:00:00Z\",\"err\":\"\",\"id\":\"00000000-0001-8000-8000-000000000001\",\"may_cancel\":true,\"metadata\":null,\"resources\":{\"instances\":[\"/1.0/instances/a\"]},\"status\":\"Pending\",\"status_code\":105,\"updated_at\":\"1970-01-01T00:00:00Z\"},\"project\":\"default\",\"timestamp\":\"1970-01-01T00:00:00Z\",\"type\":\"operation\"}";
+    "{\"metadata\":{\"class\":\"task\",\"created_at\":\"1970-01-01T00:00:00Z\",\"err\":\"\",\"id\":\"00000000-0001-8000-8000-000000000001\",\"may_cancel\":true,\"metadata\":null,\"resources\":{\"instances\":[\"/1.0/instances/a\"]},\"status\":\"Pending\",\"status_code\":105,\"updated_at\":\"1970-01-01T00:00:00Z\"},\"number\":3,\"project\":\"default\",\"timestamp\":\"1970-01-01T00:00:00Z\",\"type\":\"operation\"}";
 
 const RUNNING: &str =
-    "{\"metadata\":{\"class\":\"task\",\"created_at\":\"1970-01-01T00:00:00Z\",\"err\":\"\",\"id\":\"00000000-0001-8000-8000-000000000001\",\"may_cancel\":true,\"metadata\":null,\"resources\":{\"instances\":[\"/1.0/instances/a\"]},\"status\":\"Running\",\"status_code\":103,\"updated_at\":\"1970-01-01T00:00:00Z\"},\"project\":\"default\",\"timestamp\":\"1970-01-01T00:00:00Z\",\"type\":\"operation\"}";
+    "{\"metadata\":{\"class\":\"task\",\"created_at\":\"1970-01-01T00:00:00Z\",\"err\":\"\",\"id\":\"00000000-0001-8000-8000-000000000001\",\"may_cancel\":true,\"metadata\":null,\"resources\":{\"instances\":[\"/1.0/instances/a\"]},\"status\":\"Running\",\"status_code\":103,\"updated_at\":\"1970-01-01T00:00:00Z\"},\"number\":4,\"project\":\"default\",\"timestamp\":\"1970-01-01T00:00:00Z\",\"type\":\"operation\"}";
 
 const SUCCESS: &str =
-    "{\"metadata\":{\"class\":\"task\",\"created_at\":\"1970-01-01T00:00:00Z\",\"err\":\"\",\"id\":\"00000000-0001-8000-8000-000000000001\",\"may_cancel\":false,\"metadata\":null,\"resources\":{\"instances\":[\"/1.0/instances/a\"]},\"status\":\"Success\",\"status_code\":200,\"updated_at\":\"1970-01-01T00:00:00Z\"},\"project\":\"default\",\"timestamp\":\"1970-01-01T00:00:00Z\",\"type\":\"operation\"}";
+    "{\"metadata\":{\"class\":\"task\",\"created_at\":\"1970-01-01T00:00:00Z\",\"err\":\"\",\"id\":\"00000000-0001-8000-8000-000000000001\",\"may_cancel\":false,\"metadata\":null,\"resources\":{\"instances\":[\"/1.0/instances/a\"]},\"status\":\"Success\",\"status_code\":200,\"updated_at\":\"1970-01-01T00:00:00Z\"},\"number\":6,\"project\":\"default\",\"timestamp\":\"1970-01-01T00:00:00Z\",\"type\":\"operation\"}";
 
 const CANCELLED: &str =
-    "{\"metadata\":{\"class\":\"task\",\"created_at\":\"1970-01-01T00:00:00Z\",\"err\":\"operation was cancelled\",\"id\":\"00000000-0001-8000-8000-000000000001\",\"may_cancel\":false,\"metadata\":null,\"resources\":{\"instances\":[\"/1.0/instances/a\"]},\"status\":\"Cancelled\",\"status_code\":401,\"updated_at\":\"1970-01-01T00:00:00Z\"},\"project\":\"default\",\"timestamp\":\"1970-01-01T00:00:00Z\",\"type\":\"operation\"}";
+    "{\"metadata\":{\"class\":\"task\",\"created_at\":\"1970-01-01T00:00:00Z\",\"err\":\"operation was cancelled\",\"id\":\"00000000-0001-8000-8000-000000000001\",\"may_cancel\":false,\"metadata\":null,\"resources\":{\"instances\":[\"/1.0/instances/a\"]},\"status\":\"Cancelled\",\"status_code\":401,\"updated_at\":\"1970-01-01T00:00:00Z\"},\"number\":4,\"project\":\"default\",\"timestamp\":\"1970-01-01T00:00:00Z\",\"type\":\"operation\"}";
 
 const CREATED: &str =
-    "{\"metadata\":{\"action\":\"instance-created\",\"source\":\"/1.0/instances/a\"},\"project\":\"default\",\"timestamp\":\"1970-01-01T00:00:00Z\",\"type\":\"lifecycle\"}";
+    "{\"metadata\":{\"action\":\"instance-created\",\"source\":\"/1.0/instances/a\"},\"number\":5,\"project\":\"default\",\"timestamp\":\"1970-01-01T00:00:00Z\",\"type\":\"lifecycle\"}";
 
 /// What was requested before a session listens, and what is while it does; whether it takes lifecycle events and
 /// whether operation events; and what it sends before it lags, with the number that it asks for then. The oldest

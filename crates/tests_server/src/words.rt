@@ -172,7 +172,7 @@ fn is_event(text: &str, action: &str, date: &str) -> bool {
     let text = after(text, action);
     let text = after(
         text,
-        r#"","source":"/1.0/instances/b?project=lab"},"project":"lab","timestamp":""#,
+        r#"","source":"/1.0/instances/b?project=lab"},"number":1,"project":"lab","timestamp":""#,
     );
     after(text, date) == r#"","type":"lifecycle"}"#
 }
