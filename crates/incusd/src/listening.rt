@@ -88,7 +88,7 @@ fn serve_at<D, L, R, T>(
     blank: Blank,
 ) -> (u8, Option<R>)
 where
-    D: Doors<Source = NetSource<TcpStream>, Sink = NetSink<TcpStream>> + Drop,
+    D: Doors<Source = NetSource<TcpStream, T>, Sink = NetSink<TcpStream>> + Drop,
     L: Ledger + Send + Sync + 'static,
     R: Keeper + Drop + Send + 'static,
     T: Threads + Wait + time::Clock + Copy + Drop + Send + Sync + 'static,
