@@ -6,7 +6,7 @@ use Rattle.command_words.specs.declared.serve_setup.ServeSetup.{ServeSetup}
 
 -- nothing to make a server of
 abbrev pub not_read : ServeSetup
-not_read = record { port = 0; rows = Memory; idle = 0; stops = false; tickets = 0 }
+not_read = record { port = 0; rows = Memory; idle = 0; stops = false; logs = false; tickets = 0 }
 
 -- the option that has to be given, and how many connections are taken
 abbrev pub both : List (List ℕ)
@@ -17,11 +17,12 @@ pub record AreWorked : Type 0 where
   pub plain : serve_words_of (codes "--port" ∷ codes "8443" ∷ [])
       ≡ Some (record { connections = None; at_once = 512; workers = 2 })
   pub counted : serve_words_of both ≡ Some (record { connections = Some 4; at_once = 512; workers = 2 })
-  pub plain_setup : serve_setup_of both ≡ record { port = 8443; rows = Memory; idle = 60; stops = false; tickets = 515 }
+  pub plain_setup : serve_setup_of both
+      ≡ record { port = 8443; rows = Memory; idle = 60; stops = false; logs = false; tickets = 515 }
   pub all : serve_setup_of
       (codes "--db=f" ∷ codes "--workers=8" ∷ codes "--connections=1000000" ∷ codes "--port=1" ∷ codes "--at-once=4096"
-      ∷ codes "--idle=3600" ∷ codes "--stop-at-end-of-input" ∷ [])
-      ≡ record { port = 1; rows = Database (codes "f"); idle = 3600; stops = true; tickets = 4105 }
+      ∷ codes "--idle=3600" ∷ codes "--log" ∷ codes "--stop-at-end-of-input" ∷ [])
+      ≡ record { port = 1; rows = Database (codes "f"); idle = 3600; stops = true; logs = true; tickets = 4105 }
   -- the port is missing, a number is out of range, or there is a word more
   pub nothing : serve_setup_of [] ≡ not_read
   pub no_port : serve_words_of (codes "--connections=4" ∷ []) ≡ None
@@ -34,10 +35,15 @@ pub record AreWorked : Type 0 where
   pub no_path : serve_setup_of (codes "--db=" ∷ both) ≡ not_read
   -- a journal, one without a path, and one beside a database
   pub journal : serve_setup_of (codes "--journal" ∷ codes "f" ∷ both)
-      ≡ record { port = 8443; rows = Journal (codes "f"); idle = 60; stops = false; tickets = 515 }
+      ≡ record { port = 8443; rows = Journal (codes "f"); idle = 60; stops = false; logs = false; tickets = 515 }
   pub no_journal : serve_setup_of (codes "--journal=" ∷ both) ≡ not_read
   pub two_files : serve_words_of (codes "--journal=f" ∷ codes "--db=g" ∷ both) ≡ None
-  -- the flag takes no value, and stands once
+  -- each flag says its own; it takes no value, and stands once
+  pub log_alone : serve_setup_of (codes "--log" ∷ both)
+      ≡ record { port = 8443; rows = Memory; idle = 60; stops = false; logs = true; tickets = 515 }
+  pub stop_alone : serve_setup_of (codes "--stop-at-end-of-input" ∷ both)
+      ≡ record { port = 8443; rows = Memory; idle = 60; stops = true; logs = false; tickets = 515 }
+  pub log_value : serve_words_of (codes "--log=true" ∷ both) ≡ None
   pub flag_value : serve_words_of (codes "--stop-at-end-of-input=true" ∷ both) ≡ None
   pub flag_twice : serve_words_of (codes "--stop-at-end-of-input" ∷ codes "--stop-at-end-of-input" ∷ both) ≡ None
   pub twice : serve_words_of (codes "--port=8443" ∷ both) ≡ None

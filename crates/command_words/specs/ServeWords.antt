@@ -31,6 +31,7 @@ serve_options =
     ∷ option_of (codes "db")
     ∷ option_of (codes "journal")
     ∷ flag_of (codes "stop-at-end-of-input")
+    ∷ flag_of (codes "log")
     ∷ []
 
 -- the program as `clap` reads it
@@ -117,17 +118,23 @@ rows_in words = option_map_or rows_path (parsed_options words) Memory
 abbrev pub stops_in : List (List ℕ) → Bool
 stops_in words = option_map_or (is_flagged (codes "stop-at-end-of-input")) (parsed_options words) false
 
+-- whether standard error tells of each request
+abbrev pub logs_in : List (List ℕ) → Bool
+logs_in words = option_map_or (is_flagged (codes "log")) (parsed_options words) false
+
 -- one ticket through the lock for each connection that is served at once, one for each worker, and one to close
-abbrev pub setup_with : Option Options → RowsPath → Bool → ServeSetup
-setup_with (Some options) rows stops = record {
+abbrev pub setup_with : Option Options → RowsPath → Bool → Bool → ServeSetup
+setup_with (Some options) rows stops logs = record {
   port = options.port;
   rows = rows;
   idle = options.idle;
   stops = stops;
+  logs = logs;
   tickets = options.at_once + options.workers + 1;
 }
-setup_with None rows stops = record { port = 0; rows = Memory; idle = 0; stops = false; tickets = 0 }
+setup_with None rows stops logs =
+    record { port = 0; rows = Memory; idle = 0; stops = false; logs = false; tickets = 0 }
 
 -- what the words say of the outside: port 0, rows in memory and no tickets where they are not read
 abbrev pub serve_setup_of : List (List ℕ) → ServeSetup
-serve_setup_of words = setup_with (options_of words) (rows_in words) (stops_in words)
+serve_setup_of words = setup_with (options_of words) (rows_in words) (stops_in words) (logs_in words)

@@ -30,7 +30,8 @@ fn program<'a>(alloc: Global) -> Result<Command<'a>, NoMemory>
     let program = with_option(alloc, program, "idle")?;
     let program = with_option(alloc, program, "db")?;
     let program = with_option(alloc, program, "journal")?;
-    with_flag(alloc, program, "stop-at-end-of-input")
+    let program = with_flag(alloc, program, "stop-at-end-of-input")?;
+    with_flag(alloc, program, "log")
 }
 
 /// What the words give to the options.

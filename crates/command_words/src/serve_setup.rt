@@ -16,13 +16,15 @@ use size_values::NoMemory;
 use std::alloc::Global;
 
 /// The port that is listened on; where the rows are kept; how many seconds a connection may send nothing; whether the end
-/// of standard input stops the server; and how many tickets through the lock of the server the run takes.
+/// of standard input stops the server; whether standard error tells of each request; and how many tickets through the lock
+/// of the server the run takes.
 #[derive(Drop)]
 pub struct ServeSetup {
     pub port: u32,
     pub rows: RowsPath,
     pub idle: u32,
     pub stops: bool,
+    pub logs: bool,
     pub tickets: u32,
 }
 
@@ -48,13 +50,25 @@ fn stops(given: &Option<ArgMatches<'_>>) -> bool
     }
 }
 
+/// Whether standard error tells of each request.
+fn logs(given: &Option<ArgMatches<'_>>) -> bool
+    ensures { result ≡ option_map_or (is_flagged (codes "log"))
+        (option_map (λ m. rows_of (found_of m)) given.now) false }
+{
+    match given {
+        Some(given) => is_flagged(given, "log"),
+        None => false,
+    }
+}
+
 /// What the options say of the outside.
 fn setup_of_matches(alloc: Global, given: &Option<ArgMatches<'_>>) -> Result<ServeSetup, NoMemory>
     ensures { IfOk result (λ setup. setup ≡ setup_with
         (option_and_then options_from (option_map (λ m. rows_of (found_of m)) given.now))
         (option_map_or rows_path (option_map (λ m. rows_of (found_of m)) given.now) Memory)
         (option_map_or (is_flagged (codes "stop-at-end-of-input")) (option_map (λ m. rows_of (found_of m)) given.now)
-        false)) }
+        false)
+        (option_map_or (is_flagged (codes "log")) (option_map (λ m. rows_of (found_of m)) given.now) false)) }
 {
     match options_of_matches(given) {
         Some(options) => {
@@ -65,6 +79,7 @@ fn setup_of_matches(alloc: Global, given: &Option<ArgMatches<'_>>) -> Result<Ser
                 rows,
                 idle: options.idle,
                 stops: stops(given),
+                logs: logs(given),
                 tickets,
             })
         }
@@ -73,6 +88,7 @@ fn setup_of_matches(alloc: Global, given: &Option<ArgMatches<'_>>) -> Result<Ser
             rows: RowsPath::Memory,
             idle: 0,
             stops: false,
+            logs: false,
             tickets: 0,
         }),
     }

@@ -14,13 +14,15 @@ const PATIENCE: u64 = 60;
 /// How many seconds the links of a server that stops are given to end.
 const GRACE: u64 = 2;
 
-/// What a server listens with: its port, after how many idle seconds a connection is closed, whether the end of standard
-/// input stops it, and how many tickets there are through the lock of the server.
+/// What a server listens with: its port, for how many seconds a request is waited for, whether the end of standard
+/// input stops it, whether standard error tells of each request, and how many tickets there are through the lock of the
+/// server.
 #[derive(Clone, Copy)]
 pub(crate) struct Listening {
     pub(crate) port: u16,
     pub(crate) idle: u32,
     pub(crate) stops: bool,
+    pub(crate) logs: bool,
     pub(crate) tickets: u32,
 }
 

@@ -3,6 +3,7 @@ ghost use Rattle.std.specs.Prelude.{◌≡◌, map, string_bytes};
 ghost use Rattle.command_words.specs.ServeWords.{serve_setup_of};
 
 use crate::doors::{Listening, doors_of};
+use crate::request_log::RequestLog;
 use crate::threads::{Spawning, on_threads};
 use host_model::ModelHost;
 use http_front::{Clock, SystemClock};
@@ -20,9 +21,10 @@ use std::time;
 
 /// What a server is begun with, but for its spawner.
 struct Beginning<'a, D, R, L, T> {
+    rt: HostRuntime,
     system: T,
-    alloc: Global,
     words: &'a [String],
+    setup: Listening,
     doors: D,
     keeper: R,
     blank: Blank,
@@ -38,6 +40,7 @@ type Job<D, R, L, T> = ServerJob<
     SystemClock<T>,
     L,
     T,
+    RequestLog,
 >;
 
 impl<'a, D, R, L, T> Spawning<Job<D, R, L, T>> for Beginning<'a, D, R, L, T>
@@ -54,34 +57,38 @@ where
 
     fn run<P: Spawner<Job<D, R, L, T>>>(self, spawner: &mut P) -> (u8, Option<R>) {
         let Beginning {
+            rt,
             system,
-            alloc,
             words,
+            setup,
             mut doors,
             keeper,
             blank,
             ledger: _,
         } = self;
+        let alloc = rt.alloc();
         let host = ModelHost::new(alloc, Seq::new(alloc));
         let mut clock = SystemClock::new(system);
         let boot = clock.now();
-        serve_main::<R, ModelHost, SystemClock<T>, L, T, D, P>(
-            system, alloc, words, &mut doors, spawner, keeper, host, clock, boot, blank,
+        let log = RequestLog::new(rt, setup.logs, setup.port, boot);
+        serve_main::<R, ModelHost, SystemClock<T>, L, T, D, P, RequestLog>(
+            system, alloc, words, &mut doors, spawner, keeper, host, clock, boot, log, blank,
         )
     }
 }
 
 /// Serves the links of doors, each job on a thread, over a modelled host and by the clock of the system.
 fn serve_at<D, L, R, T>(
+    rt: HostRuntime,
     system: T,
-    alloc: Global,
     words: &[String],
+    setup: Listening,
     doors: D,
     keeper: R,
     blank: Blank,
 ) -> (u8, Option<R>)
 where
-    D: Doors<Source = NetSource<TcpStream>, Sink = NetSink<TcpStream>> + Drop,
+    D: Doors<Source = NetSource<TcpStream, T>, Sink = NetSink<TcpStream>> + Drop,
     L: Ledger + Send + Sync + 'static,
     R: Keeper + Drop + Send + 'static,
     T: Threads + Wait + time::Clock + Copy + Drop + Send + Sync + 'static,
@@ -91,15 +98,16 @@ where
         × (blank.parts ≡ (serve_setup_of (map (λ w. string_bytes w) words.now)).tickets) }
 {
     let beginning = Beginning::<'_, D, R, L, T> {
+        rt,
         system,
-        alloc,
         words,
+        setup,
         doors,
         keeper,
         blank,
         ledger: PhantomData,
     };
-    on_threads(system, alloc, beginning)
+    on_threads(system, rt.alloc(), beginning)
 }
 
 /// The same over TCP, at a ledger of its own, with a part for each ticket, until the server stops. The port is listened
@@ -123,5 +131,5 @@ where
         Err(trouble) => return (status_of(Err(trouble)), Some(keeper)),
     };
     let blank = Blank::new(u64::from(setup.tickets));
-    serve_at::<_, Brand, R, T>(system, rt.alloc(), words, doors, keeper, blank)
+    serve_at::<_, Brand, R, T>(rt, system, words, setup, doors, keeper, blank)
 }

@@ -6,6 +6,7 @@
 mod alarm;
 mod doors;
 mod listening;
+mod request_log;
 mod starting;
 mod telling;
 mod threads;

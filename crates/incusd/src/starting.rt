@@ -66,6 +66,7 @@ where
         port: u16::try_from(setup.port).unwrap_or(0),
         idle: setup.idle,
         stops: setup.stops,
+        logs: setup.logs,
         tickets: setup.tickets,
     };
     let rows = setup.rows;

@@ -123,7 +123,7 @@ anyhow such w w' (s ∷ steps) h = (tt, h.1, h.2, anyhow such h.1 w' steps h.3)
 -- the steps of a pace
 along_paced : (p : Pace) (w w' : SerialWorld) (steps : List Step) → IsPaced p w steps w'
     → IsAlong w (moments_in steps) (keeper_failures_in steps) (host_failures_in steps) w'
-along_paced (pace.Steps count) w w' steps h = along_steps w w' steps h.0
+along_paced (pace.Steps count) w w' steps h = along_steps w w' steps (anyhow _ w w' steps h.made)
 along_paced pace.All w w' steps h = along_steps w w' steps (anyhow _ w w' steps h.0.made)
 
 -- a command whose answer was held back

@@ -8,4 +8,5 @@ pub mod Drilled
 pub mod Books
 pub mod Beginning
 pub mod Others
+mod Pacing
 pub mod Tops

@@ -1,6 +1,6 @@
 -- Requests one after the other, each with its reply, and the steps that the worker makes between them: while the answer
 -- of a wait is held back, and after each reply.
-use Rattle.std.specs.Prelude.{◌≡◌, ◌≤◌, ◌+◌, ◌++◌, ◌<◌, ℕ, List, [], ◌∷◌, length, Option, Some, None}
+use Rattle.std.specs.Prelude.{◌≡◌, ◌≢◌, ◌≤◌, ◌⊎◌, ◌+◌, ◌++◌, ◌<◌, ℕ, List, [], ◌∷◌, length, Option, Some, None}
 use Rattle.std.specs.Prelude.{IfSome}
 use Rattle.std.specs.Prelude.{Result, Ok, Err}
 use Rattle.std.specs.List.{flat_map, sum_by}
@@ -21,7 +21,7 @@ use Rattle.row_machine.specs.machine.Accept.{After, and_then}
 use Rattle.row_machine.specs.machine.Step.{Outcome, well, keeper_failed, no_memory, step}
 use Rattle.start_faults.specs.core_reports.specs.Stores.{IsCaused, KeepsRecords, Stores}
 use Rattle.start_faults.specs.core_rows.specs.Asked.{answered, changes_of}
-use Rattle.serial_steps.specs.Steps.{SerialWorld, Step, StepsTo, Finishes, WaitsFor, most_steps}
+use Rattle.serial_steps.specs.Steps.{SerialWorld, Step, StepsWhile, Finishes, WaitsFor, most_steps}
 use Rattle.serial_steps.specs.Counts.{moments_in, failed_commits, keeper_failures_in, host_failures_in}
 use Rattle.rest_answers.specs.Asked.{showing}
 use Rattle.rest_answers.specs.Texts.{printed}
@@ -126,9 +126,16 @@ Comes boot world exchange later = IsAnswered world (command_of exchange.request 
 
 -- ---- and steps follow
 
--- the steps that follow a reply: so many, or all until nothing is live
+-- So many steps were made at most, each while an operation was live. Fewer were made only where none is live after them:
+-- the worker has no call in hand then, and none waits.
+pub record MakesUpTo (count : ℕ) (world : SerialWorld) (steps : List Step) (later : SerialWorld) : Type 0 where
+  pub made : StepsWhile (λ state. state.operations.live ≢ []) world steps later
+  pub few : length steps ≤ count
+  pub all : (length steps ≡ count) ⊎ (later.serial.state.operations.live ≡ [])
+
+-- the steps that follow a reply: so many, or all, and in both cases no more once nothing is live
 abbrev pub IsPaced : Pace → SerialWorld → List Step → SerialWorld → Type 0
-IsPaced (pace.Steps count) world steps later = StepsTo world steps later × (length steps ≡ count)
+IsPaced (pace.Steps count) world steps later = MakesUpTo count world steps later
 IsPaced pace.All world steps later = Finishes world steps later × (length steps ≤ most_steps)
 
 -- a request came to its reply, and the steps of the pace followed

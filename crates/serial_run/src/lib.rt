@@ -6,6 +6,7 @@ mod asking;
 mod checking;
 mod drilling;
 mod making;
+mod pacing;
 mod report;
 mod running;
 mod service;

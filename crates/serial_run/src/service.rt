@@ -6,6 +6,7 @@ ghost use Rattle.serial_run.specs.Answers.{Answers, OpensService};
 ghost use Rattle.serial_run.specs.Exchanges.{IsPaced};
 
 use crate::asking::{reply_to, tell_of_server};
+use crate::pacing::make_up_to;
 use command_words::Pace;
 use host_model::Host;
 use http_front::{Clock, Request};
@@ -98,7 +99,7 @@ impl Service {
         self.daemon.view()
     }
 
-    /// The steps of the worker that follow a reply.
+    /// The steps of the worker that follow a reply: no more are made once no operation is live.
     pub fn go_on<R: Keeper, H: Host, C: Clock>(
         &mut self,
         alloc: Global,
@@ -114,7 +115,9 @@ impl Service {
             (C.readings clock.new)) }
     {
         match pace {
-            Pace::Steps(count) => self.daemon.make_steps(alloc, keeper, host, clock, count),
+            Pace::Steps(count) => {
+                make_up_to(alloc, &mut self.daemon, keeper, host, clock, count)
+            }
             Pace::All => self.daemon.finish(alloc, keeper, host, clock),
         }
     }

@@ -6,6 +6,7 @@ ghost use Rattle.serve_loop.specs.Connections.{Connects};
 ghost use Rattle.serve_loop.specs.Sources.{feed};
 
 use crate::link::{LinkEnd, serve_link};
+use crate::log::Log;
 use crate::session::{SessionEnd, event_session};
 use crate::subscriptions::Subscription;
 use gates::Gate;
@@ -24,8 +25,8 @@ pub enum ConnectionEnd {
 
 /// Serves a connection: its requests are answered one after the other (`serve_link`), and one that
 /// subscribes to events becomes a session of these (`event_session`), after which the connection
-/// ends. The boot word is that of the ids of operations.
-pub fn serve_connection<T: Wait, G: Gate, S: Source, K: Sink, C: Clock>(
+/// ends. The boot word is that of the ids of operations. The log is told of each request.
+pub fn serve_connection<T: Wait, G: Gate, S: Source, K: Sink, C: Clock, O: Log>(
     rt: &T,
     alloc: Global,
     gate: &mut G,
@@ -33,6 +34,7 @@ pub fn serve_connection<T: Wait, G: Gate, S: Source, K: Sink, C: Clock>(
     sink: &mut K,
     clock: &mut C,
     boot: u64,
+    log: &mut O,
 ) -> ConnectionEnd
     ensures { Connects boot
         (link_world [] (inlet S.left S.ended S.failures source.old) (outlet K.held K.failures sink.old)
@@ -40,7 +42,7 @@ pub fn serve_connection<T: Wait, G: Gate, S: Source, K: Sink, C: Clock>(
         (feed S.left S.ended S.failures S.at_once source.new) (outlet K.held K.failures sink.new)
         (seen G.contents G.turned G.idled gate.new) (C.readings clock.new) result }
 {
-    match serve_link(rt, alloc, gate, source, sink, clock, boot) {
+    match serve_link(rt, alloc, gate, source, sink, clock, boot, log) {
         LinkEnd::Events(subscription) => {
             let Subscription { key, filter } = subscription;
             let ends = event_session(rt, alloc, gate, source, sink, key.view(), &filter, boot);

@@ -11,6 +11,7 @@ mod frames;
 mod hearing;
 mod link;
 mod listening;
+mod log;
 mod looking;
 mod reply;
 mod session;
@@ -30,6 +31,7 @@ pub use frame_laws::{
 pub use frames::{send_close, send_pong, send_text};
 pub use gates::{AloneGate, Bell, Daemon, DaemonMachine, Gate, LockedGate};
 pub use link::{LinkEnd, serve_link};
+pub use log::{Log, NoLog};
 pub use reply::reply_to;
 pub use session::{SessionEnd, event_session};
 pub use subscription_laws::{

@@ -4,6 +4,7 @@ ghost use Rattle.http_heads.specs.Messages.{Ending, Splits};
 ghost use Rattle.http_heads.specs.declared.request.Request.{Request as RequestValue};
 ghost use Rattle.size_values.specs.Causes.{Rose};
 ghost use Rattle.gates.specs.rest_answers.specs.Links.{inlet, outlet};
+ghost use Rattle.gates.specs.rest_answers.specs.Writing.{RefusesPlace};
 ghost use Rattle.gates.specs.Gates.{Between, seen};
 ghost use Rattle.gates.specs.History.{Item};
 ghost use Rattle.serve_loop.specs.Serving.{Meets, Replies, Serving, ServingFrom, Turns, end_after, link_world};
@@ -11,6 +12,7 @@ ghost use Rattle.serve_loop.specs.Serving.{turn_after};
 ghost use Rattle.serve_loop.specs.Texts.{IsFault, ServesText, reply_world};
 ghost use Rattle.serve_loop.specs.declared.link.LinkEnd.TheVariants as end;
 
+use crate::log::{Log, code_of, rule_in, tell_malformed, tell_subscribed};
 use crate::reply::reply_to;
 use crate::subscriptions::{Subscription, subscription_of};
 use gates::{Gate, Written, answer_for, write_answer, write_refusal};
@@ -75,7 +77,7 @@ fn end_after(written: Written, fault: HeadFault) -> LinkEnd
 }
 
 /// Answers a request that subscribes to no events.
-fn answer_request<T: Wait, G: Gate, K: Sink, C: Clock>(
+fn answer_request<T: Wait, G: Gate, K: Sink, C: Clock, O: Log>(
     rt: &T,
     alloc: Global,
     router: &Router,
@@ -84,21 +86,25 @@ fn answer_request<T: Wait, G: Gate, K: Sink, C: Clock>(
     clock: &mut C,
     request: &Request,
     boot: u64,
+    log: &mut O,
 ) -> Turn
     ensures { Replies boot request.now result (outlet K.held K.failures sink.old)
         (outlet K.held K.failures sink.new) (seen G.contents G.turned G.idled gate.old)
         (seen G.contents G.turned G.idled gate.new) (C.readings clock.old) (C.readings clock.new) }
 {
+    log.came();
     let reply = reply_to(rt, alloc, router, gate, clock, request, boot);
+    let rule = rule_in(&reply);
     let answered = answer_for(alloc, &reply, boot, request);
     drop(reply);
     let written = write_answer(sink, &answered, request);
+    log.answered(Some(request), code_of(&answered, request, written), rule);
     drop(answered);
     turn_after(written, request.last)
 }
 
 /// A turn of a link at a request: it subscribes to events, or is answered.
-fn serve_request<T: Wait, G: Gate, K: Sink, C: Clock>(
+fn serve_request<T: Wait, G: Gate, K: Sink, C: Clock, O: Log>(
     rt: &T,
     alloc: Global,
     router: &Router,
@@ -107,20 +113,40 @@ fn serve_request<T: Wait, G: Gate, K: Sink, C: Clock>(
     clock: &mut C,
     request: &Request,
     boot: u64,
+    log: &mut O,
 ) -> Turn
     ensures { Meets boot request.now result (outlet K.held K.failures sink.old)
         (outlet K.held K.failures sink.new) (seen G.contents G.turned G.idled gate.old)
         (seen G.contents G.turned G.idled gate.new) (C.readings clock.old) (C.readings clock.new) }
 {
     match subscription_of(alloc, request) {
-        Ok(Some(subscription)) => Turn::Stop(LinkEnd::Events(subscription)),
-        Ok(None) => answer_request(rt, alloc, router, gate, sink, clock, request, boot),
+        Ok(Some(subscription)) => {
+            tell_subscribed(log, request);
+            Turn::Stop(LinkEnd::Events(subscription))
+        }
+        Ok(None) => answer_request(rt, alloc, router, gate, sink, clock, request, boot, log),
         Err(NoMemory) => Turn::Stop(LinkEnd::NoMemory),
     }
 }
 
+/// Answers a place in which no request can begin.
+fn refuse_place<K: Sink, O: Log>(
+    alloc: Global,
+    sink: &mut K,
+    log: &mut O,
+    fault: HeadFault,
+) -> Written
+    ensures { RefusesPlace fault result (outlet K.held K.failures sink.old)
+        (outlet K.held K.failures sink.new) }
+{
+    log.came();
+    let written = write_refusal(alloc, sink, fault);
+    tell_malformed(alloc, log, fault, written);
+    written
+}
+
 /// One turn of a link: takes the next message and answers it.
-fn serve_next<T: Wait, G: Gate, S: Source, K: Sink, C: Clock>(
+fn serve_next<T: Wait, G: Gate, S: Source, K: Sink, C: Clock, O: Log>(
     rt: &T,
     alloc: Global,
     router: &Router,
@@ -130,6 +156,7 @@ fn serve_next<T: Wait, G: Gate, S: Source, K: Sink, C: Clock>(
     sink: &mut K,
     clock: &mut C,
     boot: u64,
+    log: &mut O,
 ) -> Turn
     ensures { Turns boot result
         (link_world buffer.old (inlet S.left S.ended S.failures source.old)
@@ -141,20 +168,22 @@ fn serve_next<T: Wait, G: Gate, S: Source, K: Sink, C: Clock>(
 {
     match read_request(alloc, buffer, source) {
         Got::Request(request) => {
-            let next = serve_request(rt, alloc, router, gate, sink, clock, &request, boot);
+            let next = serve_request(rt, alloc, router, gate, sink, clock, &request, boot, log);
             buffer.reuse(request);
             next
         }
         Got::End => Turn::Stop(LinkEnd::Ended),
         Got::Cut(_) => Turn::Stop(LinkEnd::Cut),
-        Got::Malformed(fault) => { Turn::Stop(end_after(write_refusal(alloc, sink, fault), fault)) }
+        Got::Malformed(fault) => {
+            Turn::Stop(end_after(refuse_place(alloc, sink, log, fault), fault))
+        }
         Got::ReadFault => Turn::Stop(LinkEnd::ReadFault),
         Got::NoMemory => Turn::Stop(LinkEnd::NoMemory),
     }
 }
 
 /// Answers requests one after the other until the link ends.
-fn serve<T: Wait, G: Gate, S: Source, K: Sink, C: Clock>(
+fn serve<T: Wait, G: Gate, S: Source, K: Sink, C: Clock, O: Log>(
     rt: &T,
     alloc: Global,
     router: &Router,
@@ -164,6 +193,7 @@ fn serve<T: Wait, G: Gate, S: Source, K: Sink, C: Clock>(
     sink: &mut K,
     clock: &mut C,
     boot: u64,
+    log: &mut O,
 ) -> LinkEnd
     ensures { Serving boot
         (link_world buffer.old (inlet S.left S.ended S.failures source.old)
@@ -175,7 +205,7 @@ fn serve<T: Wait, G: Gate, S: Source, K: Sink, C: Clock>(
         result }
 {
     for _ in rt.forever() {
-        match serve_next(rt, alloc, router, buffer, gate, source, sink, clock, boot) {
+        match serve_next(rt, alloc, router, buffer, gate, source, sink, clock, boot, log) {
             Turn::GoOn => {}
             Turn::Final => return LinkEnd::Ended,
             Turn::Stop(ends) => return ends,
@@ -185,7 +215,7 @@ fn serve<T: Wait, G: Gate, S: Source, K: Sink, C: Clock>(
 }
 
 /// A link, from an empty buffer on.
-fn serve_from_empty<T: Wait, G: Gate, S: Source, K: Sink, C: Clock>(
+fn serve_from_empty<T: Wait, G: Gate, S: Source, K: Sink, C: Clock, O: Log>(
     rt: &T,
     alloc: Global,
     gate: &mut G,
@@ -193,6 +223,7 @@ fn serve_from_empty<T: Wait, G: Gate, S: Source, K: Sink, C: Clock>(
     sink: &mut K,
     clock: &mut C,
     boot: u64,
+    log: &mut O,
 ) -> LinkEnd
     ensures { ServingFrom boot
         (link_world [] (inlet S.left S.ended S.failures source.old) (outlet K.held K.failures sink.old)
@@ -217,6 +248,7 @@ fn serve_from_empty<T: Wait, G: Gate, S: Source, K: Sink, C: Clock>(
         sink,
         clock,
         boot,
+        log,
     );
     drop(buffer);
     drop(router);
@@ -227,8 +259,9 @@ fn serve_from_empty<T: Wait, G: Gate, S: Source, K: Sink, C: Clock>(
 /// replies (HTTP/1.1, RFC 9112, section 9), until one subscribes to events. There is no limit to
 /// their number. A request asks for its command once, and a wait is looked at, and the gate
 /// idles once after each look that shows its operation live: until it has ended, until the clock is
-/// at the deadline, or until it idled a million times for the whole time of an idle. The boot word is that of the ids of operations.
-pub fn serve_link<T: Wait, G: Gate, S: Source, K: Sink, C: Clock>(
+/// at the deadline, or until it idled a million times for the whole time of an idle. The boot word is that of the ids of operations. The log is told of
+/// each request once it is answered.
+pub fn serve_link<T: Wait, G: Gate, S: Source, K: Sink, C: Clock, O: Log>(
     rt: &T,
     alloc: Global,
     gate: &mut G,
@@ -236,6 +269,7 @@ pub fn serve_link<T: Wait, G: Gate, S: Source, K: Sink, C: Clock>(
     sink: &mut K,
     clock: &mut C,
     boot: u64,
+    log: &mut O,
 ) -> LinkEnd
     ensures serves { ServingFrom boot
         (link_world [] (inlet S.left S.ended S.failures source.old) (outlet K.held K.failures sink.old)
@@ -262,5 +296,5 @@ pub fn serve_link<T: Wait, G: Gate, S: Source, K: Sink, C: Clock>(
     ensures write_fault { result ≡ end.WriteFault
         → Rose (K.failures sink.old) (K.failures sink.new) }
 {
-    serve_from_empty(rt, alloc, gate, source, sink, clock, boot)
+    serve_from_empty(rt, alloc, gate, source, sink, clock, boot, log)
 }

@@ -7,6 +7,7 @@ ghost use Rattle.gates.specs.Answers.{IsForReporter, IsForTaker};
 ghost use Rattle.serve_loop.specs.Work.{Gets, GoesOn, WorkBy, worker_world};
 ghost use Rattle.serve_loop.specs.declared.worker.WorkerState.TheVariants as post_of;
 
+use crate::log::{Log, tell_end};
 use gates::{Bell, Gate};
 use host_model::{Host, HostCall, perform};
 use http_front::Clock;
@@ -64,10 +65,11 @@ fn take_call<G: Gate, C: Clock>(gate: &mut G, clock: &mut C) -> WorkerState
 }
 
 /// Makes a call on the host and reports of it.
-fn make_call<G: Gate, H: Host, C: Clock>(
+fn make_call<G: Gate, H: Host, C: Clock, O: Log>(
     gate: &mut G,
     host: &mut H,
     clock: &mut C,
+    log: &mut O,
     number: u64,
     call: HostCall,
 ) -> WorkerState
@@ -81,6 +83,7 @@ fn make_call<G: Gate, H: Host, C: Clock>(
     drop(call);
     let moment = clock.now();
     let answer = gate.turn(Event::Done(number, report, moment));
+    tell_end(log, &answer, report);
     post_after_report(answer)
 }
 
@@ -94,10 +97,11 @@ fn idle<G: Gate>(gate: &mut G)
 }
 
 /// What a worker does at its post. It gives what it has to do then.
-fn go_on<G: Gate, H: Host, C: Clock>(
+fn go_on<G: Gate, H: Host, C: Clock, O: Log>(
     gate: &mut G,
     host: &mut H,
     clock: &mut C,
+    log: &mut O,
     post: WorkerState,
 ) -> WorkerState
     ensures { Walk WorkBy
@@ -107,7 +111,7 @@ fn go_on<G: Gate, H: Host, C: Clock>(
 {
     match post {
         WorkerState::Asking => take_call(gate, clock),
-        WorkerState::Busy(number, call) => make_call(gate, host, clock, number, call),
+        WorkerState::Busy(number, call) => make_call(gate, host, clock, log, number, call),
         WorkerState::Idling => {
             idle(gate);
             WorkerState::Asking
@@ -118,8 +122,14 @@ fn go_on<G: Gate, H: Host, C: Clock>(
 
 /// Works until the server is closed and nothing waits: it asks for calls, makes them on the host,
 /// and reports what became of each. It idles after each answer that no call waits. The clock is
-/// read once for each call that is asked for and for each report.
-pub fn work<T: Wait, G: Gate, H: Host, C: Clock>(rt: &T, gate: &mut G, host: &mut H, clock: &mut C)
+/// read once for each call that is asked for and for each report. The log is told of each operation that ends.
+pub fn work<T: Wait, G: Gate, H: Host, C: Clock, O: Log>(
+    rt: &T,
+    gate: &mut G,
+    host: &mut H,
+    clock: &mut C,
+    log: &mut O,
+)
     // It begins with no call in hand, and returns only after a call that it asked for was answered
     // by the close.
     ensures { Walk WorkBy
@@ -131,7 +141,7 @@ pub fn work<T: Wait, G: Gate, H: Host, C: Clock>(rt: &T, gate: &mut G, host: &mu
     for _ in rt.forever() {
         match post {
             WorkerState::Over => return,
-            now => post = go_on(gate, host, clock, now),
+            now => post = go_on(gate, host, clock, log, now),
         }
     }
     unreachable!()

@@ -3,6 +3,6 @@ use Rattle.std.specs.Prelude.{Bool, true, false}
 use Rattle.server_main.specs.declared.jobs.ServerJob.{ServerJob}
 use Rattle.server_main.specs.declared.jobs.ServerJob.TheVariants as job
 
-abbrev pub is_link : {S K R H C L T : Type 0} → ServerJob S K R H C L T → Bool
-is_link (job.Link rt alloc gate source sink clock boot) = true
-is_link (job.Worker rt gate host clock) = false
+abbrev pub is_link : {S K R H C L T O : Type 0} → ServerJob S K R H C L T O → Bool
+is_link (job.Link rt alloc gate source sink clock boot log) = true
+is_link (job.Worker rt gate host clock log) = false

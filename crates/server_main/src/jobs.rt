@@ -4,7 +4,7 @@ use crate::busy::BUSY;
 use host_model::Host;
 use http_front::{Clock, Sink, Source};
 use record_keeper::Keeper;
-use serve_loop::{ConnectionEnd, LockedGate, serve_connection, work};
+use serve_loop::{ConnectionEnd, LockedGate, Log, serve_connection, work};
 use serving::{Job, LockedHost};
 use std::alloc::Global;
 use std::sync::Wait;
@@ -13,7 +13,7 @@ use std::time;
 
 /// What a server begins beside its other work.
 #[derive(Drop)]
-pub enum ServerJob<S, K, R: Keeper, H: Host, C, L: Ledger, T: Wait + time::Clock> {
+pub enum ServerJob<S, K, R: Keeper, H: Host, C, L: Ledger, T: Wait + time::Clock, O> {
     /// A connection, whose requests are answered. The boot word is that of the ids of operations.
     Link {
         rt: T,
@@ -23,6 +23,7 @@ pub enum ServerJob<S, K, R: Keeper, H: Host, C, L: Ledger, T: Wait + time::Clock
         sink: K,
         clock: C,
         boot: u64,
+        log: O,
     },
     /// Calls of background operations, which are made on the host until the server is closed.
     Worker {
@@ -30,6 +31,7 @@ pub enum ServerJob<S, K, R: Keeper, H: Host, C, L: Ledger, T: Wait + time::Clock
         gate: LockedGate<R, L, T>,
         host: LockedHost<H, T>,
         clock: C,
+        log: O,
     },
 }
 
@@ -49,7 +51,8 @@ impl<
     C: Clock + Drop,
     L: Ledger,
     T: Wait + time::Clock + Copy + Drop,
-> Job for ServerJob<S, K, R, H, C, L, T> {
+    O: Log + Drop,
+> Job for ServerJob<S, K, R, H, C, L, T, O> {
     type Out = JobEnd<R, L, T>;
 
     ghost link = { is_link };
@@ -71,6 +74,7 @@ impl<
                 mut sink,
                 mut clock,
                 boot,
+                mut log,
             } => {
                 let ends = serve_connection(
                     &rt,
@@ -80,6 +84,7 @@ impl<
                     &mut sink,
                     &mut clock,
                     boot,
+                    &mut log,
                 );
                 JobEnd::Link(ends, gate)
             }
@@ -88,8 +93,9 @@ impl<
                 mut gate,
                 mut host,
                 mut clock,
+                mut log,
             } => {
-                work(&rt, &mut gate, &mut host, &mut clock);
+                work(&rt, &mut gate, &mut host, &mut clock, &mut log);
                 JobEnd::Worker(gate)
             }
         }

@@ -17,7 +17,7 @@ use command_words::{ServeWords, read_serve_words};
 use host_model::Host;
 use http_front::Clock;
 use record_keeper::Keeper;
-use serve_loop::{Daemon, DaemonMachine};
+use serve_loop::{Daemon, DaemonMachine, Log};
 use serving::{Doors, Spawner, Trouble, serve, status_of};
 use size_values::NoMemory;
 use start_faults::StartFault;
@@ -39,7 +39,7 @@ fn most_connections(said: ServeWords) -> u64
 
 /// Serves links and workers over a server that stands.
 #[tactic(auto, using(crate::proofs::Beginning::ends_so, crate::proofs::Beginning::gives_none, crate::proofs::Beginning::none_handled))]
-fn serve_over<R, H, C, L, T, D, P>(
+fn serve_over<R, H, C, L, T, D, P, O>(
     rt: T,
     alloc: Global,
     said: ServeWords,
@@ -49,6 +49,7 @@ fn serve_over<R, H, C, L, T, D, P>(
     host: H,
     clock: C,
     boot: u64,
+    log: O,
     blank: Blank,
 ) -> Result<(), Trouble>
 where
@@ -58,7 +59,8 @@ where
     L: Ledger,
     T: Wait + time::Clock + Copy + Drop,
     D: Doors,
-    P: Spawner<ServerJob<D::Source, D::Sink, R, H, C, L, T>>,
+    P: Spawner<ServerJob<D::Source, D::Sink, R, H, C, L, T, O>>,
+    O: Log + Copy + Drop,
     requires few { (said.at_once ≤ 4096) × (said.workers ≤ 8) }
     requires name { blank.name ≡ L.name }
     requires parts { (blank.parts ≡ L.parts) × (blank.parts ≡ said.at_once + said.workers + 1) }
@@ -74,8 +76,8 @@ where
     ensures out { (P.counts spawner.new).out ≡ 0 }
 {
     let tickets = said.at_once + said.workers + 1;
-    let slots = JobSlots::<R, H, C, L, T>::new(
-        rt, alloc, machine, host, clock, boot, tickets, blank,
+    let slots = JobSlots::<R, H, C, L, T, O>::new(
+        rt, alloc, machine, host, clock, boot, log, tickets, blank,
     );
     let Ok(mut slots) = slots else {
         return Err(Trouble::NoMemory);
@@ -94,7 +96,7 @@ where
 /// Opens the rows of the keeper and serves links and workers over them. Where they are not opened,
 /// the keeper is given back.
 #[tactic(auto, using(crate::proofs::Beginning::server_begun, crate::proofs::Beginning::rows_unopened, crate::proofs::Beginning::gives_none, crate::proofs::Beginning::none_handled))]
-fn serve_said<R, H, C, L, T, D, P>(
+fn serve_said<R, H, C, L, T, D, P, O>(
     rt: T,
     alloc: Global,
     said: ServeWords,
@@ -104,6 +106,7 @@ fn serve_said<R, H, C, L, T, D, P>(
     host: H,
     clock: C,
     boot: u64,
+    log: O,
     blank: Blank,
 ) -> (u8, Option<R>)
 where
@@ -113,7 +116,8 @@ where
     L: Ledger,
     T: Wait + time::Clock + Copy + Drop,
     D: Doors,
-    P: Spawner<ServerJob<D::Source, D::Sink, R, H, C, L, T>>,
+    P: Spawner<ServerJob<D::Source, D::Sink, R, H, C, L, T, O>>,
+    O: Log + Copy + Drop,
     requires few { (said.at_once ≤ 4096) × (said.workers ≤ 8) }
     requires name { blank.name ≡ L.name }
     requires parts { (blank.parts ≡ L.parts) × (blank.parts ≡ said.at_once + said.workers + 1) }
@@ -132,8 +136,8 @@ where
     match Daemon::begin(alloc, &mut keeper) {
         Ok(daemon) => {
             let machine = DaemonMachine::new(alloc, daemon, keeper);
-            let served = serve_over::<R, H, C, L, T, D, P>(
-                rt, alloc, said, doors, spawner, machine, host, clock, boot, blank,
+            let served = serve_over::<R, H, C, L, T, D, P, O>(
+                rt, alloc, said, doors, spawner, machine, host, clock, boot, log, blank,
             );
             (status_of(served), None)
         }
@@ -143,7 +147,7 @@ where
 
 /// Reads the words, and serves what they ask for.
 #[tactic(auto, using(crate::proofs::Beginning::words_unread, crate::proofs::Beginning::words_refused, crate::proofs::Beginning::gives_none, crate::proofs::Beginning::none_handled, crate::proofs::Beginning::at_once_said))]
-fn serve_any<R, H, C, L, T, D, P>(
+fn serve_any<R, H, C, L, T, D, P, O>(
     rt: T,
     alloc: Global,
     words: &[String],
@@ -153,6 +157,7 @@ fn serve_any<R, H, C, L, T, D, P>(
     host: H,
     clock: C,
     boot: u64,
+    log: O,
     blank: Blank,
 ) -> (u8, Option<R>)
 where
@@ -162,7 +167,8 @@ where
     L: Ledger,
     T: Wait + time::Clock + Copy + Drop,
     D: Doors,
-    P: Spawner<ServerJob<D::Source, D::Sink, R, H, C, L, T>>,
+    P: Spawner<ServerJob<D::Source, D::Sink, R, H, C, L, T, O>>,
+    O: Log + Copy + Drop,
     requires name { blank.name ≡ L.name }
     requires parts { (blank.parts ≡ L.parts)
         × (blank.parts ≡ (serve_setup_of (map (λ w. string_bytes w) words.now)).tickets) }
@@ -180,8 +186,8 @@ where
     ensures out { (P.counts spawner.new).out ≡ 0 }
 {
     match read_serve_words(alloc, words) {
-        Ok(Some(said)) => serve_said::<R, H, C, L, T, D, P>(
-            rt, alloc, said, doors, spawner, keeper, host, clock, boot, blank,
+        Ok(Some(said)) => serve_said::<R, H, C, L, T, D, P, O>(
+            rt, alloc, said, doors, spawner, keeper, host, clock, boot, log, blank,
         ),
         Ok(None) => (StartFault::Words.status(), Some(keeper)),
         Err(NoMemory) => (StartFault::NoMemory.status(), Some(keeper)),
@@ -192,9 +198,9 @@ where
 /// many connections as the words say, or all that there are, each by a job of its own, and so many of
 /// them at once as the words say: others are turned away. It takes in all that it started: links that
 /// have ended as others come, the rest of them at the end, and the workers after the server was
-/// closed. The boot word is that of the ids of operations. It gives the exit status, and the keeper
-/// back where no server was begun.
-pub fn serve_main<R, H, C, L, T, D, P>(
+/// closed. Each job tells a copy of the log. The boot word is that of the ids of operations. It gives
+/// the exit status, and the keeper back where no server was begun.
+pub fn serve_main<R, H, C, L, T, D, P, O>(
     rt: T,
     alloc: Global,
     words: &[String],
@@ -204,6 +210,7 @@ pub fn serve_main<R, H, C, L, T, D, P>(
     host: H,
     clock: C,
     boot: u64,
+    log: O,
     blank: Blank,
 ) -> (u8, Option<R>)
 where
@@ -213,7 +220,8 @@ where
     L: Ledger,
     T: Wait + time::Clock + Copy + Drop,
     D: Doors,
-    P: Spawner<ServerJob<D::Source, D::Sink, R, H, C, L, T>>,
+    P: Spawner<ServerJob<D::Source, D::Sink, R, H, C, L, T, O>>,
+    O: Log + Copy + Drop,
     // The ledger counts the turns of the server, in a part for each ticket that the words ask for.
     requires name { blank.name ≡ L.name }
     requires parts { (blank.parts ≡ L.parts)
@@ -264,7 +272,7 @@ where
         → is_some (serve_words_of (map (λ w. string_bytes w) words.now)) ≡ true
         → (result.0 ≡ 0) ⊎ ((result.0 ≡ 6) ⊎ ((result.0 ≡ 9) ⊎ ((result.0 ≡ 11) ⊎ (result.0 ≡ 12))))) }
 {
-    serve_any::<R, H, C, L, T, D, P>(
-        rt, alloc, words, doors, spawner, keeper, host, clock, boot, blank,
+    serve_any::<R, H, C, L, T, D, P, O>(
+        rt, alloc, words, doors, spawner, keeper, host, clock, boot, log, blank,
     )
 }

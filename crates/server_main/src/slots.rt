@@ -7,7 +7,7 @@ use host_model::Host;
 use http_front::{Clock, Sink, Source};
 use record_keeper::Keeper;
 use row_machine::Event;
-use serve_loop::{DaemonMachine, Gate, LockedGate};
+use serve_loop::{DaemonMachine, Gate, LockedGate, Log};
 use serving::{Jobs, LockedHost};
 use size_values::NoMemory;
 use std::alloc::Global;
@@ -17,15 +17,16 @@ use std::time;
 use turnstile::{Ticket, Turnstile};
 
 /// What the jobs of one server share: the gates to the server under its lock that no job has, the host under another
-/// lock, the clock, and the boot word of the ids of operations. Each gate is a slot for a job.
+/// lock, the clock, the boot word of the ids of operations, and the log. Each gate is a slot for a job.
 #[derive(Drop)]
-pub struct JobSlots<R: Keeper, H, C, L: Ledger, T: Wait + time::Clock> {
+pub struct JobSlots<R: Keeper, H, C, L: Ledger, T: Wait + time::Clock, O> {
     rt: T,
     alloc: Global,
     gates: Vec<LockedGate<R, L, T>>,
     host: LockedHost<H, T>,
     clock: C,
     boot: u64,
+    log: O,
     /// Whether the server was closed.
     closed: bool,
 }
@@ -54,9 +55,10 @@ impl<
     C: Clock + Drop,
     L: Ledger,
     T: Wait + time::Clock + Copy + Drop,
-> JobSlots<R, H, C, L, T> {
-    /// So many slots at this server, over this host and this clock. Where memory is refused, the
-    /// server and the host are let go.
+    O: Log + Copy + Drop,
+> JobSlots<R, H, C, L, T, O> {
+    /// So many slots at this server, over this host and this clock. Each job tells a copy of the log. Where memory is
+    /// refused, the server and the host are let go.
     pub fn new(
         rt: T,
         alloc: Global,
@@ -64,9 +66,10 @@ impl<
         host: H,
         clock: C,
         boot: u64,
+        log: O,
         tickets: u32,
         blank: Blank,
-    ) -> Result<JobSlots<R, H, C, L, T>, NoMemory>
+    ) -> Result<JobSlots<R, H, C, L, T, O>, NoMemory>
         requires some { 1 ≤ tickets }
         requires name { blank.name ≡ L.name }
         requires parts { (blank.parts ≡ L.parts) × (blank.parts ≡ tickets) }
@@ -87,6 +90,7 @@ impl<
             host,
             clock,
             boot,
+            log,
             closed: false,
         })
     }
@@ -100,7 +104,8 @@ impl<
     C: Clock + Drop,
     L: Ledger,
     T: Wait + time::Clock + Copy + Drop,
-> Jobs<ServerJob<S, K, R, H, C, L, T>> for JobSlots<R, H, C, L, T> {
+    O: Log + Copy + Drop,
+> Jobs<ServerJob<S, K, R, H, C, L, T, O>> for JobSlots<R, H, C, L, T, O> {
     type Source = S;
 
     type Sink = K;
@@ -125,7 +130,7 @@ impl<
         slot: LockedGate<R, L, T>,
         source: S,
         sink: K,
-    ) -> ServerJob<S, K, R, H, C, L, T> {
+    ) -> ServerJob<S, K, R, H, C, L, T, O> {
         ServerJob::Link {
             rt: self.rt,
             alloc: self.alloc,
@@ -134,6 +139,7 @@ impl<
             sink,
             clock: self.clock.twin(),
             boot: self.boot,
+            log: self.log,
         }
     }
 
@@ -145,13 +151,14 @@ impl<
     fn worker_job(
         &mut self,
         slot: LockedGate<R, L, T>,
-    ) -> Result<ServerJob<S, K, R, H, C, L, T>, NoMemory> {
+    ) -> Result<ServerJob<S, K, R, H, C, L, T, O>, NoMemory> {
         match self.host.share() {
             Ok(host) => Ok(ServerJob::Worker {
                 rt: self.rt,
                 gate: slot,
                 host,
                 clock: self.clock.twin(),
+                log: self.log,
             }),
             Err(NoMemory) => {
                 self.gates.push_reserved(slot);

@@ -2,6 +2,7 @@
 //! lock of its own.
 #![tactic(auto)]
 
+mod deadline;
 mod door;
 mod ends;
 mod job;
@@ -16,6 +17,7 @@ mod net_source;
 mod open_door;
 mod passing;
 mod refusing;
+mod replies;
 mod server;
 mod spawner;
 mod stop;
@@ -36,6 +38,7 @@ pub use net_sink::NetSink;
 pub use net_source::NetSource;
 pub use passing::pass_on;
 pub use refusing::{Kept, RefusingSpawner};
+pub use replies::Replies;
 pub use server::serve;
 pub use spawner::{Spawner, StartFailed};
 pub use stop::Stop;

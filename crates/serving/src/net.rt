@@ -5,6 +5,7 @@ use crate::link::Link;
 use crate::net_sink::NetSink;
 use crate::net_source::NetSource;
 use crate::open_door::OpenDoor;
+use crate::replies::Replies;
 use crate::stop::Stop;
 use mio::Events;
 use size_values::NoMemory;
@@ -12,7 +13,7 @@ use std::alloc::Global;
 use std::io::ErrorKind;
 use std::marker::Model;
 use std::net::{Ipv4Addr, Net, SocketAddr, TcpListener, TcpStream};
-use std::time::Duration;
+use std::time::{Clock, Duration};
 
 /// What is told of doors to a person, and how long they rest after a failure.
 pub trait DoorEvents {
@@ -27,22 +28,29 @@ pub trait DoorEvents {
 /// How long the links of doors are waited for.
 #[derive(Clone, Copy)]
 pub struct LinkTimes {
-    /// A read fails where the other end sends nothing for as long.
+    /// A read fails where no request has come whole so long after the reply before it.
     pub idle: Duration,
     /// A write fails where the other end takes nothing for as long.
     pub patience: Duration,
+}
+
+/// What the ends of a link are made with.
+#[derive(Drop)]
+struct Making<N> {
+    net: N,
+    alloc: Global,
+    times: LinkTimes,
+    stop: Stop,
 }
 
 /// Doors over a port, which is listened on from the first accept on. They tell no links. None is left once the server
 /// stops. An accept fails only where the port can't be had.
 #[derive(Drop)]
 pub struct NetDoors<N, E> {
-    net: N,
+    making: Making<N>,
     address: SocketAddr,
     door: Option<OpenDoor>,
     was_opened: bool,
-    times: LinkTimes,
-    stop: Stop,
     events: E,
     /// Room for what is told of the listener.
     signs: Events,
@@ -74,12 +82,15 @@ impl<N: Net + Drop, E: DoorEvents + Drop> NetDoors<N, E> {
     {
         let signs = Events::with_capacity(alloc, 1)?;
         Ok(NetDoors {
-            net,
+            making: Making {
+                net,
+                alloc,
+                times,
+                stop,
+            },
             address: SocketAddr::from((Ipv4Addr::LOCALHOST, port)),
             door: None,
             was_opened: false,
-            times,
-            stop,
             events,
             signs,
             given: 0,
@@ -107,17 +118,17 @@ impl<N: Net, E: DoorEvents> NetDoors<N, E> {
     {
         if !self.was_opened {
             self.was_opened = true;
-            self.door = OpenDoor::at(&self.net, self.address).ok();
+            self.door = OpenDoor::at(&self.making.net, self.address).ok();
             self.events.opened(self.door.is_some());
         }
     }
 }
 
 /// The ends of a connection: where its requests come from, and where its replies go.
-type NetLink = Link<NetSource<TcpStream>, NetSink<TcpStream>>;
+type NetLink<N> = Link<NetSource<TcpStream, N>, NetSink<TcpStream>>;
 
-impl<N: Net, E: DoorEvents> Doors for NetDoors<N, E> {
-    type Source = NetSource<TcpStream>;
+impl<N: Net + Clock + Copy + Drop, E: DoorEvents> Doors for NetDoors<N, E> {
+    type Source = NetSource<TcpStream, N>;
 
     type Sink = NetSink<TcpStream>;
 
@@ -129,13 +140,12 @@ impl<N: Net, E: DoorEvents> Doors for NetDoors<N, E> {
 
     fn accept(
         &mut self,
-    ) -> Result<Option<Link<NetSource<TcpStream>, NetSink<TcpStream>>>, DoorsFailed> {
+    ) -> Result<Option<Link<NetSource<TcpStream, N>, NetSink<TcpStream>>>, DoorsFailed> {
         self.open();
         let next = next_link(
             &mut self.door,
             &mut self.signs,
-            self.times,
-            &self.stop,
+            &self.making,
             &mut self.events,
         );
         match &next {
@@ -160,22 +170,21 @@ impl<N: Net, E: DoorEvents> Doors for NetDoors<N, E> {
 }
 
 /// The next connection, or None once the server stops.
-fn next_link<E: DoorEvents>(
+fn next_link<N: Net + Clock + Copy + Drop, E: DoorEvents>(
     door: &mut Option<OpenDoor>,
     signs: &mut Events,
-    times: LinkTimes,
-    stop: &Stop,
+    making: &Making<N>,
     events: &mut E,
-) -> Result<Option<NetLink>, DoorsFailed> {
+) -> Result<Option<NetLink<N>>, DoorsFailed> {
     let Some(door) = door else {
         return Err(DoorsFailed);
     };
     for _ in 0..u64::MAX {
-        if stop.is_set() {
+        if making.stop.is_set() {
             return Ok(None);
         }
         match door.next(signs) {
-            Ok(Some(stream)) => return Ok(link_over(stream, times, stop, events)),
+            Ok(Some(stream)) => return Ok(link_over(stream, making, events)),
             Ok(None) => {}
             Err(error) if breaks_off(error.kind()) => {}
             Err(error) => events.failed(error.kind()),
@@ -185,12 +194,11 @@ fn next_link<E: DoorEvents>(
 }
 
 /// The two ends of a stream, once a second handle can be had for it; None where the server stops before that.
-fn link_over<E: DoorEvents>(
+fn link_over<N: Net + Clock + Copy + Drop, E: DoorEvents>(
     stream: TcpStream,
-    times: LinkTimes,
-    stop: &Stop,
+    making: &Making<N>,
     events: &mut E,
-) -> Option<NetLink> {
+) -> Option<NetLink<N>> {
     // Each reply and each event is one write, which is not to wait for the client's answer to the one
     // before. Where this can't be had, they are slower.
     let _at_once = stream.set_nodelay(true);
@@ -198,42 +206,55 @@ fn link_over<E: DoorEvents>(
         twin,
         at_source,
         at_sink,
-    } = handles_for(&stream, stop, events)?;
+        replies,
+        counted,
+    } = handles_for(&stream, making, events)?;
+    let Making { net, times, .. } = making;
     Some(Link {
-        source: NetSource::new(twin, times.idle, at_source),
-        sink: NetSink::new(stream, times.patience, at_sink),
+        source: NetSource::new(twin, times.idle, at_source, *net, replies),
+        sink: NetSink::new(stream, times.patience, at_sink, counted),
     })
 }
 
-/// What the ends of a stream need besides it: a second handle, and two handles of the stop.
+/// What the ends of a stream need besides it: a second handle, two handles of the stop, and two of the count of replies.
 struct Handles {
     twin: TcpStream,
     at_source: Stop,
     at_sink: Stop,
+    replies: Replies,
+    counted: Replies,
 }
 
 /// These, once they can be had; None where the server stops before that.
-fn handles_for<E: DoorEvents>(stream: &TcpStream, stop: &Stop, events: &mut E) -> Option<Handles> {
+fn handles_for<N, E: DoorEvents>(
+    stream: &TcpStream,
+    making: &Making<N>,
+    events: &mut E,
+) -> Option<Handles> {
     for _ in 0..u64::MAX {
-        match handles_of(stream, stop) {
+        match handles_of(stream, making) {
             Ok(handles) => return Some(handles),
             Err(kind) => events.failed(kind),
         }
-        if stop.is_set() {
+        if making.stop.is_set() {
             return None;
         }
     }
     None
 }
 
-fn handles_of(stream: &TcpStream, stop: &Stop) -> Result<Handles, ErrorKind> {
-    let at_source = stop.share().map_err(|_| ErrorKind::OutOfMemory)?;
-    let at_sink = stop.share().map_err(|_| ErrorKind::OutOfMemory)?;
+fn handles_of<N>(stream: &TcpStream, making: &Making<N>) -> Result<Handles, ErrorKind> {
+    let at_source = making.stop.share().map_err(|_| ErrorKind::OutOfMemory)?;
+    let at_sink = making.stop.share().map_err(|_| ErrorKind::OutOfMemory)?;
+    let replies = Replies::new(making.alloc).map_err(|_| ErrorKind::OutOfMemory)?;
+    let counted = replies.share().map_err(|_| ErrorKind::OutOfMemory)?;
     let twin = stream.try_clone().map_err(|error| error.kind())?;
     Ok(Handles {
         twin,
         at_source,
         at_sink,
+        replies,
+        counted,
     })
 }
 

@@ -1,6 +1,7 @@
 //! What goes to a connection of the net.
 ghost use Rattle.std.specs.Prelude.{◌≡◌, ◌≤◌, length, IfOk, IfSome};
 
+use crate::replies::Replies;
 use crate::stop::Stop;
 use http_front::{Sink, SinkFailed};
 use std::io::{ErrorKind, Write};
@@ -11,13 +12,15 @@ use std::time::Duration;
 /// The longest that one try of a write waits, in milliseconds.
 const TRY: u64 = 500;
 
-/// A sink over a stream of the net. It tells no bytes. A write fails where the other end takes nothing for a given time.
+/// A sink over a stream of the net. It tells no bytes, and counts its writes for the other end of its connection. A write
+/// fails where that takes nothing for a given time.
 /// Once the server waits for nobody any more, it fails where that takes nothing for half a second, and the first write from
 /// then on is the last one that is made.
 #[derive(Drop)]
 pub struct NetSink<T> {
     stream: T,
     stop: Stop,
+    replies: Replies,
     /// How many tries in a row may come to nothing.
     tries: u64,
     /// Whether the server waited for nobody any more at the last write.
@@ -38,7 +41,7 @@ impl<T: Write + OpenStream> NetSink<T> {
     /// A sink over the stream, which has had no failure yet. A write fails once nothing was taken for as long as
     /// `patience`, in steps of half a second. It sets the time that a write to this stream waits, also by other handles
     /// of it.
-    pub fn new(stream: T, patience: Duration, stop: Stop) -> NetSink<T>
+    pub fn new(stream: T, patience: Duration, stop: Stop, replies: Replies) -> NetSink<T>
         ensures { result ≡ record { held = None; faults = 0 } }
     {
         // Where the time can't be had, the other end is waited for longer.
@@ -46,6 +49,7 @@ impl<T: Write + OpenStream> NetSink<T> {
         NetSink {
             stream,
             stop,
+            replies,
             tries: tries_in(patience),
             was_over: false,
             faults: 0,
@@ -68,6 +72,7 @@ impl<T: Write + OpenStream> Sink for NetSink<T> {
             write_through(&mut self.stream, &self.stop, self.tries, bytes)
         };
         self.was_over = is_over;
+        self.replies.add();
         if written.is_err() {
             self.faults = self.faults.saturating_add(1);
         }

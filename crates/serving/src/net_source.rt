@@ -1,31 +1,35 @@
 //! What comes from a connection of the net.
 ghost use Rattle.std.specs.Prelude.{◌≡◌, ◌<◌, ◌≤◌, false, length, None, IfOk};
 
+use crate::deadline::Deadline;
+use crate::replies::Replies;
 use crate::stop::Stop;
 use http_front::{Source, SourceFailed};
 use std::io::{ErrorKind, Read};
 use std::marker::Model;
 use std::net::OpenStream;
-use std::time::Duration;
+use std::time::{Clock, Duration};
 
 /// The longest that one look at a stream waits, in milliseconds. So a read that waits sees within this time that the
 /// server stops.
 const LOOK: u64 = 200;
 
-/// A source over a stream of the net. It tells no bytes. A read waits for the other end, and fails where that sends
-/// nothing for a given time; where the server stops, a read that would wait gives the end instead, and each read once it
-/// waits for nobody any more.
+/// A source over a stream of the net. It tells no bytes. A read waits for the other end, and fails once a given time has
+/// gone by since the reply before it, or since the first read, also where bytes come: so a request has to come whole
+/// within this time. Who looks whether a read would wait, waits for no request, and the time begins anew. Where the server
+/// stops, a read that would wait gives the end instead, and each read once it waits for nobody any more.
 #[derive(Drop)]
-pub struct NetSource<T> {
+pub struct NetSource<T, N> {
     stream: T,
     stop: Stop,
-    /// How many looks in a row a read waits.
+    deadline: Deadline<N>,
+    /// How many looks in a row a read waits, also where the clock can't tell the time.
     looks: u64,
     ended: bool,
     faults: u64,
 }
 
-impl<T> Model for NetSource<T> {
+impl<T, N> Model for NetSource<T, N> {
     ghost use Rattle.std.specs.Prelude.{None};
     ghost use Rattle.http_front.specs.Streams.{Reading};
 
@@ -34,10 +38,17 @@ impl<T> Model for NetSource<T> {
     ghost view = { λ s. record { left = None; ended = s.ended; faults = s.faults } };
 }
 
-impl<T: Read + OpenStream> NetSource<T> {
-    /// A source over the stream, of which nothing was read yet. A read fails once nothing came for as long as `idle`,
-    /// in steps of 200 ms. It sets the time that a read of this stream waits, also by other handles of it.
-    pub fn new(stream: T, idle: Duration, stop: Stop) -> NetSource<T>
+impl<T: Read + OpenStream, N: Clock> NetSource<T, N> {
+    /// A source over the stream, of which nothing was read yet. A request is waited for as long as `idle`, in steps of
+    /// 200 ms, by this clock, and the replies tell when it was answered. It sets the time that a read of this stream waits,
+    /// also by other handles of it.
+    pub fn new(
+        stream: T,
+        idle: Duration,
+        stop: Stop,
+        clock: N,
+        replies: Replies,
+    ) -> NetSource<T, N>
         ensures { result ≡ record { left = None; ended = false; faults = 0 } }
     {
         // Where the time can't be had, the other end is waited for longer.
@@ -45,6 +56,7 @@ impl<T: Read + OpenStream> NetSource<T> {
         NetSource {
             stream,
             stop,
+            deadline: Deadline::new(clock, idle, replies),
             looks: looks_in(idle),
             ended: false,
             faults: 0,
@@ -52,7 +64,7 @@ impl<T: Read + OpenStream> NetSource<T> {
     }
 }
 
-impl<T: Read + OpenStream> Source for NetSource<T> {
+impl<T: Read + OpenStream, N: Clock> Source for NetSource<T, N> {
     ghost use Rattle.std.specs.Prelude.{None};
 
     ghost left = { λ _. None };
@@ -64,7 +76,15 @@ impl<T: Read + OpenStream> Source for NetSource<T> {
     ghost at_once = { λ _. None };
 
     fn read(&mut self, into: &mut [u8]) -> Result<usize, SourceFailed> {
-        let Ok(count) = read_once(&mut self.stream, &self.stop, self.looks, into) else {
+        self.deadline.wait();
+        let read = read_once(
+            &mut self.stream,
+            &self.stop,
+            &self.deadline,
+            self.looks,
+            into,
+        );
+        let Ok(count) = read else {
             self.faults = self.faults.saturating_add(1);
             return Err(SourceFailed);
         };
@@ -74,6 +94,7 @@ impl<T: Read + OpenStream> Source for NetSource<T> {
 
     /// Also where the server stops, whose reads wait for nothing.
     fn is_ready(&mut self) -> bool {
+        self.deadline.begin();
         self.stop.is_set() || gives_at_once(&self.stream)
     }
 
@@ -90,11 +111,12 @@ fn looks_in(idle: Duration) -> u64 {
         .max(1)
 }
 
-/// One read, which looks so often whether something came. Once the server stops, it gives the end in place of waiting;
-/// once that waits for nobody any more, it gives it also where something came.
-fn read_once<T: Read + OpenStream>(
+/// One read, which looks so often whether something came, and fails once the deadline is over. Once the server stops, it
+/// gives the end in place of waiting; once that waits for nobody any more, it gives it also where something came.
+fn read_once<T: Read + OpenStream, N: Clock>(
     stream: &mut T,
     stop: &Stop,
+    deadline: &Deadline<N>,
     looks: u64,
     into: &mut [u8],
 ) -> Result<usize, SourceFailed>
@@ -104,6 +126,9 @@ fn read_once<T: Read + OpenStream>(
     for _ in 0..looks {
         if stop.is_over() || (stop.is_set() && !gives_at_once(stream)) {
             return Ok(0);
+        }
+        if deadline.is_over() {
+            return Err(SourceFailed);
         }
         match stream.read(into) {
             Ok(count) => return Ok(count),

@@ -135,15 +135,26 @@ const NOT_READ: &[&str] = &[
     "|--port=8443|--stop-at-end-of-input|true",
     "|--port=8443|--stop-at-end-of-input|--stop-at-end-of-input",
     "|--port=8443|--stop",
+    "|--log",
+    "|--port=8443|--log=true",
+    "|--port=8443|--log=",
+    "|--port=8443|--log|true",
+    "|--port=8443|--log|--log",
+    "|--port=8443|--logs",
 ];
 
-/// Lists of words, and whether the end of standard input stops the server by them.
-const STOPS: &[(&str, bool)] = &[
-    ("|--port=8443", false),
-    ("|--port=8443|--stop-at-end-of-input", true),
-    ("|--stop-at-end-of-input|--port|8443|--workers|1", true),
-    ("|--port=8443|--stop-at-end-of-input=true", false),
-    ("|--stop-at-end-of-input", false),
+/// Lists of words, and what the flags say by them: whether the end of standard input stops the server, and whether
+/// standard error tells of each request.
+const FLAGS: &[(&str, bool, bool)] = &[
+    ("|--port=8443", false, false),
+    ("|--port=8443|--stop-at-end-of-input", true, false),
+    ("|--stop-at-end-of-input|--port|8443|--workers|1", true, false),
+    ("|--port=8443|--stop-at-end-of-input=true", false, false),
+    ("|--stop-at-end-of-input", false, false),
+    ("|--port=8443|--log", false, true),
+    ("|--log|--port|8443|--stop-at-end-of-input", true, true),
+    ("|--port=8443|--log=true", false, false),
+    ("|--log", false, false),
 ];
 
 /// Whether words say these numbers of connections and workers, or are not read.
@@ -204,21 +215,21 @@ fn are_said(alloc: Global, words: &str, says: Serves) -> bool {
     say(alloc, words, Some(numbers), port, kept, idle, tickets)
 }
 
-/// Whether the end of standard input stops the server by these words.
-fn stops(alloc: Global, words: &str) -> Option<bool> {
+/// What the flags say by these words.
+fn flags(alloc: Global, words: &str) -> Option<(bool, bool)> {
     let words = owned(alloc, words).ok()?;
     let setup = serve_setup_of(alloc, &words).ok();
     drop(words);
     let setup = setup?;
-    let stops = setup.stops;
+    let flags = (setup.stops, setup.logs);
     drop(setup);
-    Some(stops)
+    Some(flags)
 }
 
 #[test]
-fn a_flag_says_whether_the_end_of_input_stops(rt: HostRuntime) {
-    for (words, are) in STOPS {
-        assert!(rt; stops(rt.alloc(), words) == Some(*are), "{words}");
+fn flags_say_what_stops_the_server_and_whether_it_logs(rt: HostRuntime) {
+    for (words, stops, logs) in FLAGS {
+        assert!(rt; flags(rt.alloc(), words) == Some((*stops, *logs)), "{words}");
     }
 }
 

@@ -6,7 +6,7 @@ use crate::server::{Said, said_by};
 use host_model::ModelHost;
 use http_front::StillClock;
 use row_machine::Event;
-use serve_loop::{Gate, work};
+use serve_loop::{Gate, NoLog, work};
 use size_values::Seq;
 use std::alloc::Global;
 use std::sync::Wait;
@@ -116,7 +116,7 @@ fn links_are_served(rt: HostRuntime) {
 /// Whether a worker makes one instance on a host of its own before it returns.
 fn is_made<T: Wait>(rt: &T, alloc: Global, gate: &mut OwnGate) -> bool {
     let mut host = ModelHost::new(alloc, Seq::new(alloc));
-    work(rt, gate, &mut host, &mut StillClock::new(0));
+    work(rt, gate, &mut host, &mut StillClock::new(0), &mut NoLog);
     let made = host.roots().len() == 1;
     drop(host);
     made

@@ -5,7 +5,7 @@ use crate::server::opened;
 use host_model::ModelHost;
 use http_front::{ByteSink, ByteSource, StillClock};
 use record_keeper::MapKeeper;
-use serve_loop::{AloneGate, DaemonMachine, Gate, LinkEnd, serve_link};
+use serve_loop::{AloneGate, DaemonMachine, Gate, LinkEnd, NoLog, serve_link};
 use size_values::Seq;
 use std::alloc::Global;
 use std::sync::Wait;
@@ -69,7 +69,9 @@ fn served<T: Wait, G: Gate>(
     let mut source = ByteSource::new(bytes, piece, Seq::new(alloc));
     let mut sink = ByteSink::new(alloc, Seq::new(alloc));
     let mut clock = StillClock::new(0);
-    let ended = serve_link(rt, alloc, gate, &mut source, &mut sink, &mut clock, 1);
+    let ended = serve_link(
+        rt, alloc, gate, &mut source, &mut sink, &mut clock, 1, &mut NoLog,
+    );
     drop(source);
     let ends = name_of(&ended);
     drop(ended);

@@ -9,7 +9,7 @@ use host_model::ModelHost;
 use http_front::StillClock;
 use record_keeper::MapKeeper;
 use row_machine::Event;
-use serve_loop::{Bell, DaemonMachine, Gate, LockedGate, work};
+use serve_loop::{Bell, DaemonMachine, Gate, LockedGate, NoLog, work};
 use serving::LockedHost;
 use size_values::Seq;
 use std::alloc::Global;
@@ -211,7 +211,7 @@ fn works<T: Wait + Clock + Copy, G: Gate>(floor: &Floor<T>, gate: &mut G) -> boo
                 let_go: &floor.let_go,
                 host,
             };
-            work(&floor.rt, gate, &mut held, &mut StillClock::new(0));
+            work(&floor.rt, gate, &mut held, &mut StillClock::new(0), &mut NoLog);
             drop(held);
             true
         }

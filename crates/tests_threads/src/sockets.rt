@@ -6,8 +6,9 @@ use serving::{DoorEvents, Doors, LinkTimes, NetDoors, Stop};
 use std::alloc::Global;
 use std::io::{ErrorKind, Read, Write};
 use std::net::{Net, Shutdown, SocketAddr, TcpListener, TcpStream};
+use std::thread;
 use std::thread::{Threads, join};
-use std::time::Duration;
+use std::time::{Clock, Duration};
 
 /// How long the doors of the tests wait for a client, in milliseconds.
 const PATIENCE: u64 = 300;
@@ -30,8 +31,20 @@ fn open<R: Net + Copy + Drop>(
 ) -> Option<(NetDoors<R, Silent>, SocketAddr)>
     ensures { IfSome result (λ o. o.0.given ≡ 0) }
 {
+    open_for(rt, alloc, stop, PATIENCE)
+}
+
+/// The same, where a request is waited for so many milliseconds.
+fn open_for<R: Net + Copy + Drop>(
+    rt: &R,
+    alloc: Global,
+    stop: Stop,
+    idle: u64,
+) -> Option<(NetDoors<R, Silent>, SocketAddr)>
+    ensures { IfSome result (λ o. o.0.given ≡ 0) }
+{
     let times = LinkTimes {
-        idle: Duration::from_millis(PATIENCE),
+        idle: Duration::from_millis(idle),
         patience: Duration::from_millis(PATIENCE),
     };
     let mut doors = NetDoors::at(*rt, alloc, 0, times, stop, Silent).ok()?;
@@ -40,7 +53,7 @@ fn open<R: Net + Copy + Drop>(
 }
 
 /// Accepts one link and writes back the first bytes that come. How many they were, and how many accepts failed.
-fn answer_once<R: Net + Drop>(mut doors: NetDoors<R, Silent>) -> (usize, u64)
+fn answer_once<R: Net + Clock + Copy + Drop>(mut doors: NetDoors<R, Silent>) -> (usize, u64)
     requires { doors.given ≡ 0 }
 {
     let count = match doors.accept() {
@@ -72,14 +85,20 @@ fn ask<R: Net<Listener = TcpListener, Stream = TcpStream>>(
 }
 
 fn client_and_answer<
-    R: Net<Listener = TcpListener, Stream = TcpStream> + Threads + Copy + Drop + Send + Sync,
+    R: Net<Listener = TcpListener, Stream = TcpStream>
+        + Threads
+        + Clock
+        + Copy
+        + Drop
+        + Send
+        + Sync,
 >(rt: &R, alloc: Global) -> Option<((usize, u64), Option<[u8; 5]>)> {
     let (doors, address) = open(rt, alloc, Stop::new(alloc).ok()?)?;
     Some(join(rt, move || answer_once(doors), || ask(rt, address)))
 }
 
 /// A client that goes before it is accepted: the links given, the accepts failed, and whether the link gave no byte.
-fn gone<R: Net<Listener = TcpListener, Stream = TcpStream> + Copy + Drop>(
+fn gone<R: Net<Listener = TcpListener, Stream = TcpStream> + Clock + Copy + Drop>(
     rt: &R,
     alloc: Global,
 ) -> Option<(u64, u64, bool)> {
@@ -98,7 +117,7 @@ fn gives_none<S: Source + Drop>(mut source: S) -> bool {
 }
 
 /// A client that never reads: the accepts failed, and the writes.
-fn asleep<R: Net<Listener = TcpListener, Stream = TcpStream> + Copy + Drop>(
+fn asleep<R: Net<Listener = TcpListener, Stream = TcpStream> + Clock + Copy + Drop>(
     rt: &R,
     alloc: Global,
 ) -> Option<(u64, u64)> {
@@ -124,7 +143,7 @@ fn writes_failed<K: Sink + Drop>(alloc: Global, mut sink: K) -> Option<u64> {
 }
 
 /// A client that never sends: its link gives no byte once it was idle for long enough.
-fn idle<R: Net<Listener = TcpListener, Stream = TcpStream> + Copy + Drop>(
+fn idle<R: Net<Listener = TcpListener, Stream = TcpStream> + Clock + Copy + Drop>(
     rt: &R,
     alloc: Global,
 ) -> Option<bool> {
@@ -136,6 +155,77 @@ fn idle<R: Net<Listener = TcpListener, Stream = TcpStream> + Copy + Drop>(
     };
     drop(client);
     Some(none)
+}
+
+/// How many milliseconds a request is waited for of a client that sends a byte at a time.
+const WAIT: u64 = 4_000;
+
+/// How many milliseconds such a client lets go by after each byte.
+const PAUSE: u64 = 300;
+
+/// How many bytes it sends: they take longer than a request is waited for.
+const DROPS: usize = 20;
+
+/// Sends a byte at a time.
+fn drip<R: Net<Listener = TcpListener, Stream = TcpStream> + Clock>(rt: &R, address: SocketAddr) {
+    let Ok(mut stream) = rt.connect(address) else {
+        return;
+    };
+    for _ in 0..DROPS {
+        let _sent = stream.write_all(b"a");
+        let _ = thread::sleep(rt, Duration::from_millis(PAUSE));
+    }
+}
+
+/// Accepts one link and reads what comes until a read gives nothing. Each read is answered or none is. How many bytes came.
+fn taken_of<R: Net + Clock + Copy + Drop>(
+    mut doors: NetDoors<R, Silent>,
+    is_answered: bool,
+) -> usize
+    requires { doors.given ≡ 0 }
+{
+    match doors.accept() {
+        Ok(Some(link)) => taken(link.source, link.sink, is_answered),
+        _ => 0,
+    }
+}
+
+fn taken<S: Source + Drop, K: Sink + Drop>(
+    mut source: S,
+    mut sink: K,
+    is_answered: bool,
+) -> usize {
+    let mut piece = [0u8; 16];
+    let mut bytes = 0usize;
+    for _ in 0..=DROPS {
+        match source.read(&mut piece) {
+            Ok(0) | Err(_) => break,
+            Ok(count) => bytes = bytes.saturating_add(count),
+        }
+        if is_answered {
+            let _told = sink.write(b"b");
+        }
+    }
+    bytes
+}
+
+/// A client that sends a byte at a time: how many of its bytes come, where each read is answered or none is.
+fn dripping<
+    R: Net<Listener = TcpListener, Stream = TcpStream>
+        + Threads
+        + Clock
+        + Copy
+        + Drop
+        + Send
+        + Sync,
+>(rt: &R, alloc: Global, is_answered: bool) -> Option<usize> {
+    let (doors, address) = open_for(rt, alloc, Stop::new(alloc).ok()?, WAIT)?;
+    let (count, ()) = join(
+        rt,
+        move || taken_of(doors, is_answered),
+        || drip(rt, address),
+    );
+    Some(count)
 }
 
 /// What the source of a link is, looked at from outside.
@@ -150,7 +240,7 @@ struct Looks {
 
 /// A client that sends three bytes and stays, and a server that then stops: whether its source is ready before the bytes
 /// come, once they have come, and once the server stops; and what its reads give then.
-fn stopped<R: Net<Listener = TcpListener, Stream = TcpStream> + Copy + Drop>(
+fn stopped<R: Net<Listener = TcpListener, Stream = TcpStream> + Clock + Copy + Drop>(
     rt: &R,
     alloc: Global,
 ) -> Option<Looks> {
@@ -205,6 +295,19 @@ fn a_source_shows_what_a_read_gives(rt: HostRuntime) {
 #[test]
 fn a_client_that_never_sends_is_let_go(rt: HostRuntime) {
     assert!(rt; idle(&rt, rt.alloc()) == Some(true), "its read ends");
+}
+
+/// Its first byte came, and not its last one.
+#[test]
+fn a_client_that_sends_a_byte_at_a_time_is_let_go(rt: HostRuntime) {
+    let count = dripping(&rt, rt.alloc(), false);
+    assert!(rt; matches!(count, Some(1..DROPS)), "a read ends before all bytes came");
+}
+
+/// Each reply begins the wait for a request anew, so all bytes come.
+#[test]
+fn a_client_that_is_answered_stays(rt: HostRuntime) {
+    assert!(rt; dripping(&rt, rt.alloc(), true) == Some(DROPS), "each byte came");
 }
 
 #[test]

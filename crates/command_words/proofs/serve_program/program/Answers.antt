@@ -10,4 +10,6 @@ returns c =
     let idle = more _ _ _ _ (more _ _ _ _ at_once c.in_ok-program-4.ensures) c.in_ok-program-5.ensures in
     let before = more _ _ _ _ idle c.in_ok-program-6.ensures in
     let files = more _ _ _ _ before c.in_ok-program-7.ensures in
-    IfOk-weaker c.with_flag.result _ _ (λ made adds. program_is made (more _ _ _ made files adds)) c.with_flag.ensures
+    let stops = more _ _ _ _ files c.in_ok-program-8.ensures in
+    IfOk-weaker c.with_flag-2.result _ _ (λ made adds. program_is made (more _ _ _ made stops adds))
+    c.with_flag-2.ensures

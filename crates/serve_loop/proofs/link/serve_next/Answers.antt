@@ -18,7 +18,7 @@ returns-in-Request g c = rw c.reuse.ensures (turn_meets _ _ _ c.in-Request.reque
 
 pub returns-in-Malformed : goal.returns-in-Malformed
 returns-in-Malformed g c = rw c.end_after.ensures (
-    turn_refuses _ _ _ c.in-Malformed.fault c.write_refusal.result (record {
+    turn_refuses _ _ _ c.in-Malformed.fault c.refuse_place.result (record {
       next = c.in-Malformed.ensures.next;
       held = c.in-Malformed.ensures.held;
       ahead = unread (inlet g.S.Source.left g.S.Source.ended g.S.Source.failures) _ _ _ c.in-Malformed.ensures.ahead;
@@ -27,7 +27,7 @@ returns-in-Malformed g c = rw c.end_after.ensures (
       fault = c.in-Malformed.ensures.fault;
       ended = c.in-Malformed.ensures.ended;
     })
-    (record { gate = refl; clock = refl }) c.write_refusal.ensures
+    (record { gate = refl; clock = refl }) c.refuse_place.ensures
     )
 
 pub returns-in-End : goal.returns-in-End
