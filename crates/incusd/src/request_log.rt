@@ -85,7 +85,12 @@ impl RequestLog {
         let alloc = self.rt.alloc();
         let time = self.moment_text()?;
         let id = id_text(alloc, self.boot, number)?;
-        Ok(format!(in alloc; "{} operation {} {}\n", time.view(), id.view(), report_word(report))?)
+        Ok(format!(in alloc;
+            "{} operation {} {}\n",
+            time.view(),
+            id.view(),
+            report_word(report)
+        )?)
     }
 }
 

@@ -205,7 +205,9 @@ fn serve<T: Wait, G: Gate, S: Source, K: Sink, C: Clock, O: Log>(
         result }
 {
     for _ in rt.forever() {
-        match serve_next(rt, alloc, router, buffer, gate, source, sink, clock, boot, log) {
+        match serve_next(
+            rt, alloc, router, buffer, gate, source, sink, clock, boot, log,
+        ) {
             Turn::GoOn => {}
             Turn::Final => return LinkEnd::Ended,
             Turn::Stop(ends) => return ends,

@@ -42,13 +42,7 @@ impl<T: Read + OpenStream, N: Clock> NetSource<T, N> {
     /// A source over the stream, of which nothing was read yet. A request is waited for as long as `idle`, in steps of
     /// 200 ms, by this clock, and the replies tell when it was answered. It sets the time that a read of this stream waits,
     /// also by other handles of it.
-    pub fn new(
-        stream: T,
-        idle: Duration,
-        stop: Stop,
-        clock: N,
-        replies: Replies,
-    ) -> NetSource<T, N>
+    pub fn new(stream: T, idle: Duration, stop: Stop, clock: N, replies: Replies) -> NetSource<T, N>
         ensures { result ≡ record { left = None; ended = false; faults = 0 } }
     {
         // Where the time can't be had, the other end is waited for longer.

@@ -148,7 +148,11 @@ const NOT_READ: &[&str] = &[
 const FLAGS: &[(&str, bool, bool)] = &[
     ("|--port=8443", false, false),
     ("|--port=8443|--stop-at-end-of-input", true, false),
-    ("|--stop-at-end-of-input|--port|8443|--workers|1", true, false),
+    (
+        "|--stop-at-end-of-input|--port|8443|--workers|1",
+        true,
+        false,
+    ),
     ("|--port=8443|--stop-at-end-of-input=true", false, false),
     ("|--stop-at-end-of-input", false, false),
     ("|--port=8443|--log", false, true),
@@ -229,7 +233,10 @@ fn flags(alloc: Global, words: &str) -> Option<(bool, bool)> {
 #[test]
 fn flags_say_what_stops_the_server_and_whether_it_logs(rt: HostRuntime) {
     for (words, stops, logs) in FLAGS {
-        assert!(rt; flags(rt.alloc(), words) == Some((*stops, *logs)), "{words}");
+        assert!(rt;
+            flags(rt.alloc(), words) == Some((*stops, *logs)),
+            "{words}"
+        );
     }
 }
 

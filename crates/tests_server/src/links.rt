@@ -70,7 +70,14 @@ fn served<T: Wait, G: Gate>(
     let mut sink = ByteSink::new(alloc, Seq::new(alloc));
     let mut clock = StillClock::new(0);
     let ended = serve_link(
-        rt, alloc, gate, &mut source, &mut sink, &mut clock, 1, &mut NoLog,
+        rt,
+        alloc,
+        gate,
+        &mut source,
+        &mut sink,
+        &mut clock,
+        1,
+        &mut NoLog,
     );
     drop(source);
     let ends = name_of(&ended);

@@ -211,7 +211,13 @@ fn works<T: Wait + Clock + Copy, G: Gate>(floor: &Floor<T>, gate: &mut G) -> boo
                 let_go: &floor.let_go,
                 host,
             };
-            work(&floor.rt, gate, &mut held, &mut StillClock::new(0), &mut NoLog);
+            work(
+                &floor.rt,
+                gate,
+                &mut held,
+                &mut StillClock::new(0),
+                &mut NoLog,
+            );
             drop(held);
             true
         }
