@@ -190,11 +190,7 @@ fn taken_of<R: Net + Clock + Copy + Drop>(
     }
 }
 
-fn taken<S: Source + Drop, K: Sink + Drop>(
-    mut source: S,
-    mut sink: K,
-    is_answered: bool,
-) -> usize {
+fn taken<S: Source + Drop, K: Sink + Drop>(mut source: S, mut sink: K, is_answered: bool) -> usize {
     let mut piece = [0u8; 16];
     let mut bytes = 0usize;
     for _ in 0..=DROPS {
@@ -301,13 +297,19 @@ fn a_client_that_never_sends_is_let_go(rt: HostRuntime) {
 #[test]
 fn a_client_that_sends_a_byte_at_a_time_is_let_go(rt: HostRuntime) {
     let count = dripping(&rt, rt.alloc(), false);
-    assert!(rt; matches!(count, Some(1..DROPS)), "a read ends before all bytes came");
+    assert!(rt;
+        matches!(count, Some(1..DROPS)),
+        "a read ends before all bytes came"
+    );
 }
 
 /// Each reply begins the wait for a request anew, so all bytes come.
 #[test]
 fn a_client_that_is_answered_stays(rt: HostRuntime) {
-    assert!(rt; dripping(&rt, rt.alloc(), true) == Some(DROPS), "each byte came");
+    assert!(rt;
+        dripping(&rt, rt.alloc(), true) == Some(DROPS),
+        "each byte came"
+    );
 }
 
 #[test]
