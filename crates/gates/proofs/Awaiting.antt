@@ -27,7 +27,6 @@ use Rattle.size_values.specs.declared.kinds.ObjectKind.TheVariants as kind
 use Rattle.row_machine.specs.declared.changes.RowChange.{RowChange}
 use Rattle.row_machine.specs.declared.changes.RowChange.TheVariants as change
 use Rattle.row_machine.specs.declared.events.Answer.{Answer}
-use Rattle.row_machine.specs.declared.events.Answer.TheVariants as answer
 use Rattle.row_machine.specs.declared.events.Event.{Event}
 use Rattle.row_machine.specs.declared.events.Event.TheVariants as event
 use Rattle.row_machine.specs.machine.State.{State}
@@ -47,11 +46,11 @@ use Rattle.row_machine.specs.shown.Notices.{change_notices, operation_notice, su
 use Rattle.machine_laws.proofs.BooksSteps.{failure-keeps, power-keeps, telling-keeps}
 use Rattle.machine_laws.proofs.EndsLive.{found-changed}
 use Rattle.machine_laws.proofs.NamesApplied.{applied-operations}
-use Rattle.turnstile.specs.Bells.{is_rung, no_rings}
+use Rattle.turnstile.specs.Bells.{is_rung}
 use Rattle.turnstile.specs.declared.bells.Bell.{Bell}
 use Rattle.turnstile.specs.declared.bells.Bell.TheVariants as bell
 use Rattle.turnstile.specs.declared.bells.Rings.{Rings}
-use Rattle.gates.specs.Awaited.{KeepsCalls, KeepsLive, KeepsNotices, NothingIsMissed, WaitsOn}
+use Rattle.gates.specs.Awaited.{KeepsCalls, KeepsLive, NothingIsMissed, WaitsOn}
 use Rattle.gates.specs.Bells.{begins, closes, ends, purpose_of_command, rings_at, rings_of, rings_of_reply, tells}
 use Rattle.gates.specs.declared.bells.Purpose.TheVariants as purpose
 

@@ -1,10 +1,9 @@
 -- With a step of its worker a gate idles once.
-use Rattle.std.proofs.Common.{◌≡◌, true, Some, refl, [], ◌∷◌, ap}
+use Rattle.std.proofs.Common.{true, Some, refl, [], ◌∷◌, ap}
 use Rattle.record_keeper.specs.Store.{Store}
 use Rattle.row_machine.specs.declared.events.Event.TheVariants as event
 use Rattle.row_machine.specs.machine.Step.{well}
 use Rattle.serial_steps.specs.Steps.{SerialWorld, Step, Steps, took, reported}
-use Rattle.gates.specs.Chains.{Chain, none, more}
 use Rattle.gates.specs.History.{EventBy, GateIdle}
 use Rattle.gates.proofs.Histories.{chain-one}
 use Rattle.gates.specs.Alone.{contents_at}

@@ -1,5 +1,5 @@
 -- A turn of the server, as a gate shows it.
-use Rattle.std.proofs.Common.{◌≡◌, ◌<◌, ◌≤◌, ℕ, max, Some, refl, ap, sym, ◌∙◌, subst, arith}
+use Rattle.std.proofs.Common.{◌≡◌, ◌<◌, ◌≤◌, ℕ, Some, refl, ap, sym, ◌∙◌, subst, arith}
 use Rattle.size_values.specs.Moments.{moment_limit}
 use Rattle.record_keeper.specs.Store.{Store}
 use Rattle.row_machine.specs.declared.events.Answer.{Answer}
