@@ -103,17 +103,25 @@ fn leaves_one_of(alloc: Global, disk: &MemoryDisk, rows: &Seq<Entry>, others: &S
     true
 }
 
+/// The commit at a place of the day, or one that changes nothing.
+fn commit_at(place: Option<usize>) -> &'static [Change] {
+    match place {
+        Some(place) if place < DAY.len() => DAY[place],
+        _ => &[],
+    }
+}
+
 /// Whether each crash leaves the rows that were acknowledged, or those and the commit in doubt, if there is one.
 fn leaves_only(
     alloc: Global,
     disk: &MemoryDisk,
     acknowledged: &mut MapKeeper,
-    doubt: &[Change],
+    doubt: Option<usize>,
 ) -> bool {
     let Ok(rows) = acknowledged.load() else {
         return false;
     };
-    match rows_with(alloc, &rows, doubt) {
+    match rows_with(alloc, &rows, commit_at(doubt)) {
         Some(others) => {
             let only = leaves_one_of(alloc, disk, &rows, &others);
             drop(others);
@@ -132,16 +140,16 @@ fn leaves_only(
 fn is_well(alloc: Global, disk: MemoryDisk, goes_on: bool) -> bool {
     let mut keeper = JournalKeeper::over(alloc, disk);
     let mut acknowledged = MapKeeper::new(alloc, Seq::new(alloc));
-    let mut doubt: &[Change] = &[];
+    let mut doubt = None;
     let mut well = loads(&mut keeper) || loads(&mut keeper) || !goes_on;
-    for commit in DAY {
-        let was_in_doubt = !doubt.is_empty();
-        let taken = takes(alloc, &mut keeper, commit);
+    for place in 0..DAY.len() {
+        let was_in_doubt = doubt.is_some();
+        let taken = takes(alloc, &mut keeper, DAY[place]);
         if taken {
-            well = well && takes(alloc, &mut acknowledged, commit);
-            doubt = &[];
+            well = well && takes(alloc, &mut acknowledged, DAY[place]);
+            doubt = None;
         } else {
-            doubt = commit;
+            doubt = Some(place);
         }
         if !taken || was_in_doubt {
             well = well && leaves_only(alloc, keeper.disk(), &mut acknowledged, doubt);
