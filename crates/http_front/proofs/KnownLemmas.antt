@@ -29,7 +29,7 @@ head-front len start bytes items held same view within ends =
     let count : length (take len held) ≡ len = omega (arith, length-take len held, within) in
     subst (λ h. head_len (take len h) ≡ Some (length (take len h))) (sym whole) (head_len-front held len ends ∙ ap Some (sym count))
 
-consumes-none : (left : Option (List ℕ)) → Consumes left left []
+pub consumes-none : (left : Option (List ℕ)) → Consumes left left []
 consumes-none None = tt
 consumes-none (Some bytes) = refl
 

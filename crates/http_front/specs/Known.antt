@@ -11,7 +11,7 @@ pub record Known : Type 0 where
 -- a plain request has no body, and its connection stays open and asks for no other protocol
 abbrev pub plain_request : Known → Request
 plain_request known =
-    record { method = known.method; target = known.target; body = []; last = false; upgrade = None }
+    record { method = known.method; target = known.target; body = []; last = false; expects = false; upgrade = None }
 
 -- the head is the whole message that this plain request is; or it is empty, and nothing is known
 abbrev pub IsKnown : List ℕ → Known → Type 0

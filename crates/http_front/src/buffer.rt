@@ -1,4 +1,4 @@
-ghost use Rattle.std.specs.Prelude.{◌≡◌, ◌+◌, ◌<◌, ◌≤◌, [], Some, length, drop, vec_len, vec_capacity, IfOk, IfErr};
+ghost use Rattle.std.specs.Prelude.{◌≡◌, ◌+◌, ◌<◌, ◌≤◌, [], Some, true, false, length, drop, vec_len, vec_capacity, IfOk, IfErr};
 ghost use Rattle.std.specs.Prelude.{IfSome, IfNone, OnErr};
 ghost use Rattle.std.specs.Io.KnownBytes.{IsAtEnd};
 ghost use Rattle.size_values.specs.Causes.{HasCauseOrMemory};
@@ -8,10 +8,11 @@ ghost use Rattle.http_heads.specs.Messages.{IsMessage};
 ghost use Rattle.http_heads.specs.Readings.{Says, HasReason};
 ghost use Rattle.http_front.specs.Streams.{Ends};
 ghost use Rattle.http_front.specs.Held.{TakesIn, max_piece, most_held};
+ghost use Rattle.http_front.specs.Leave.{ToldLeave};
 
 use crate::known::KnownHead;
 use crate::source::{Source, SourceFailed};
-use http_heads::{Head, HeadFault, HeaderSpans, Request, SpareTexts, read_head};
+use http_heads::{Head, HeadFault, HeaderSpans, Request, SpareTexts, expects_leave, read_head};
 use size_values::{NoMemory, Or, Text};
 use std::alloc::Global;
 use std::marker::Model;
@@ -124,6 +125,24 @@ impl Buffer {
         let request = self.known.request(alloc, &mut self.spare)?;
         self.start += len;
         Ok(Some(request))
+    }
+
+    /// Whether the bytes begin with the head that was noted. Its request has no body.
+    pub(crate) fn begins_known(&self) -> bool
+        ensures { result ≡ true → ToldLeave self.now false }
+    {
+        self.known.begins(&self.bytes[self.start..]).is_some()
+    }
+
+    /// Whether the head that the first `len` bytes are has its client wait for leave before it sends the body.
+    pub(crate) fn expects_leave(&mut self, len: usize) -> bool
+        requires within { len ≤ length self.old }
+        requires ends { head_len self.old ≡ Some len }
+        ensures told { ToldLeave self.new result }
+        ensures same { self.new ≡ self.old }
+    {
+        let held = &self.bytes[self.start..];
+        expects_leave(&held[..len], &mut self.spans)
     }
 
     /// Lets go of the first bytes, which a message has used.

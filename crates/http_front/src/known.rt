@@ -64,6 +64,7 @@ impl KnownHead {
             target: mem::replace(&mut spare.target, Text::new(alloc)),
             body: Seq::new(alloc),
             last: false,
+            expects: false,
             upgrade: None,
         })
     }

@@ -32,9 +32,9 @@ pub enum Got {
     NoMemory,
 }
 
-/// Why there is no request.
+/// Why there is no request, as `Got` has it.
 #[derive(Clone, Copy)]
-enum Stop {
+pub enum Stop {
     End,
     Cut(u64),
     Malformed(HeadFault),
@@ -170,16 +170,18 @@ fn take_request(
         target: head.target,
         body,
         last: head.last,
+        expects: head.expects,
         upgrade: head.upgrade,
     })
 }
 
 /// Reads until a whole head is held, and answers its length.
-fn await_head<S: Source>(buffer: &mut Buffer, source: &mut S) -> Result<usize, Stop>
+pub(crate) fn await_head<S: Source>(buffer: &mut Buffer, source: &mut S) -> Result<usize, Stop>
     ensures takes { TakesIn buffer.old buffer.new (S.left source.old) (S.left source.new) }
     ensures ok { IfOk result (λ len. head_len buffer.new ≡ Some len) }
     ensures within { IfOk result (λ len. len ≤ length buffer.new) }
     ensures short { IfOk result (λ len. len ≤ max_head) }
+    ensures none { OnErr result (head_len buffer.new ≡ None) }
     ensures err { IfErr result (Stops buffer.new (S.ended source.new) (S.left source.new)) }
     ensures ahead { ((source.new ≡ source.old) × (buffer.new ≡ buffer.old)) ⊎ IsHeadAwaited buffer.old }
     ensures few { length buffer.new ≤ most_held }

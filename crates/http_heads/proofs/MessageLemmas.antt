@@ -10,7 +10,7 @@ use Rattle.http_heads.specs.declared.request.Request.{Request}
 use Rattle.http_heads.specs.declared.request.HeadFault.{HeadFault}
 use Rattle.http_heads.specs.declared.request.HeadFault.TheVariants.{H1, H2, H3, H4}
 use Rattle.http_heads.specs.Heads.{blank_len, head_len, after_blank, head_bytes}
-use Rattle.http_heads.specs.Fields.{fields_of, framing, is_last}
+use Rattle.http_heads.specs.Fields.{fields_of, framing, is_last, expects_leave}
 use Rattle.http_heads.specs.Upgrades.{upgrade_key}
 use Rattle.http_heads.specs.Messages.{IsHead, HasHead, IsMessage, IsBlank, IsCut, IsNoHead, IsTooLong, IsFramedBadly, IsMalformed, Ending, ended, cut, malformed, EndsAs, Begins, Splits}
 use Rattle.http_heads.specs.Readings.{IsHeadWith, HasFault}
@@ -40,6 +40,7 @@ IsMessage-append {bytes} {rest} {m} more h =
       body_is = h.body_is
           ∙ sym (ap (take h.body) (drop-append-le h.len bytes more len_fits) ∙ take-append-le h.body (drop h.len bytes) more body_fits);
       last_is = h.last_is;
+      expects_is = h.expects_is;
       upgrade_is = h.upgrade_is;
       rest_is = ap (λ l. l ++ more) h.rest_is ∙ sym (drop-append-le (h.len + h.body) bytes more h.whole);
     }
@@ -77,7 +78,7 @@ HasHead-unique {bytes} {len} {other} {head} {another} h k =
     let is = subst (λ n. IsHead (head_bytes n bytes) head) same h.is in
     (same, (request_unique (head_bytes other bytes) head another [] [] is.reads k.is.reads).0)
 
-same_framing : {bytes : List ℕ} {len other : ℕ} {head another : RequestHead} → HasHead bytes len head → HasHead bytes other another
+pub same_framing : {bytes : List ℕ} {len other : ℕ} {head another : RequestHead} → HasHead bytes len head → HasHead bytes other another
     → framing (fields_of head) ≡ framing (fields_of another)
 same_framing h k = ap (λ x. framing (fields_of x)) (HasHead-unique h k).1
 
@@ -110,10 +111,10 @@ IsMalformed-fault bytes len H4 ends h = IsFramedBadly-with len ends h
 none_some : {n : ℕ} (bytes : List ℕ) → head_len bytes ≡ None → head_len bytes ≡ Some n → ⊥
 none_some {n} bytes a b = let e : None ≡ Some n = sym a ∙ b in cc
 
-same_Ok : {a b : ℕ} → ◌≡◌ {A = Result ℕ HeadFault} (Ok a) (Ok b) → a ≡ b
+pub same_Ok : {a b : ℕ} → ◌≡◌ {A = Result ℕ HeadFault} (Ok a) (Ok b) → a ≡ b
 same_Ok e = cc
 
-ok_err : {a : ℕ} {f : HeadFault} → ◌≡◌ {A = Result ℕ HeadFault} (Ok a) (Err f) → ⊥
+pub ok_err : {a : ℕ} {f : HeadFault} → ◌≡◌ {A = Result ℕ HeadFault} (Ok a) (Err f) → ⊥
 ok_err e = cc
 
 same_Err : {f g : HeadFault} → ◌≡◌ {A = Result ℕ HeadFault} (Err f) (Err g) → f ≡ g
@@ -127,9 +128,18 @@ message_unique {bytes} {rest} {other} {m} {n} h k =
     let method : m.method ≡ n.method = h.method_is ∙ ap (λ x. x.method) heads.1 ∙ sym k.method_is in
     let target : m.target ≡ n.target = h.target_is ∙ ap (λ x. x.target) heads.1 ∙ sym k.target_is in
     let last : m.last ≡ n.last = h.last_is ∙ ap is_last heads.1 ∙ sym k.last_is in
+    let expects : m.expects ≡ n.expects =
+    h.expects_is ∙ ap₂ expects_leave bodies heads.1 ∙ sym k.expects_is in
     let upgrade : m.upgrade ≡ n.upgrade = h.upgrade_is ∙ ap upgrade_key heads.1 ∙ sym k.upgrade_is in
     let body : m.body ≡ n.body = h.body_is ∙ ap₂ (λ b l. take b (drop l bytes)) bodies heads.0 ∙ sym k.body_is in (
-      λ i. record { method = method i; target = target i; body = body i; last = last i; upgrade = upgrade i },
+      λ i. record {
+        method = method i;
+        target = target i;
+        body = body i;
+        last = last i;
+        expects = expects i;
+        upgrade = upgrade i;
+      },
       h.rest_is ∙ ap₂ (λ l b. drop (l + b) bytes) heads.0 bodies ∙ sym k.rest_is,
     )
 
@@ -154,11 +164,15 @@ badly_ok : {bytes : List ℕ} {len body : ℕ} {head : RequestHead} {f : HeadFau
     → framing (fields_of head) ≡ Ok body → ⊥
 badly_ok h k framed = ok_err (sym framed ∙ sym (same_framing h.has k) ∙ h.framed)
 
+pub malformed_framed : {len body : ℕ} {head : RequestHead} (bytes : List ℕ) (f : HeadFault) → IsMalformed bytes f → HasHead bytes len head
+    → framing (fields_of head) ≡ Ok body → ⊥
+malformed_framed bytes H1 h k framed = no_head_has h k
+malformed_framed bytes H2 h k framed = none_some bytes h.none k.ends
+malformed_framed bytes H3 h k framed = badly_ok h k framed
+malformed_framed bytes H4 h k framed = badly_ok h k framed
+
 malformed_message : {rest : List ℕ} {m : Request} (bytes : List ℕ) (f : HeadFault) → IsMalformed bytes f → IsMessage bytes m rest → ⊥
-malformed_message bytes H1 h k = no_head_has h k.has
-malformed_message bytes H2 h k = none_some bytes h.none k.has.ends
-malformed_message bytes H3 h k = badly_ok h k.has k.framed
-malformed_message bytes H4 h k = badly_ok h k.has k.framed
+malformed_message bytes f h k = malformed_framed bytes f h k.has k.framed
 
 blank_cut : {bytes : List ℕ} → IsBlank bytes → IsCut bytes → ⊥
 blank_cut h (inl k) = omega (arith, h.all, k.begun)

@@ -7,7 +7,7 @@ use Rattle.http_heads.specs.declared.request.HeadFault.{HeadFault}
 use Rattle.http_heads.specs.declared.request.HeadFault.TheVariants.{H1, H2}
 use Rattle.http_heads.specs.Limits.{max_head}
 use Rattle.http_heads.specs.Heads.{is_line_byte, head_end, head_len, head_bytes}
-use Rattle.http_heads.specs.Fields.{fields_of, framing, is_last}
+use Rattle.http_heads.specs.Fields.{fields_of, framing, is_last, expects_leave}
 use Rattle.http_heads.specs.Upgrades.{upgrade_key}
 use Rattle.http_heads.specs.Messages.{HasHead, IsMessage, IsBlank, IsCut, Ending, ended, cut, malformed, EndsAs, Splits}
 use Rattle.http_heads.proofs.SearchLemmas.{head_end-blank, head_end-begins}
@@ -47,7 +47,14 @@ next_framed bytes len head has (Ok body) framed = by_length (cases_lt (length by
         inr (cut (length bytes), (inr (record { len = len; head = head; body = body; has = has; framed = framed; short = short }), refl))
     by_length (inr whole) =
         inl (
-          record { method = head.method; target = head.target; body = take body (drop len bytes); last = is_last head; upgrade = upgrade_key head },
+          record {
+            method = head.method;
+            target = head.target;
+            body = take body (drop len bytes);
+            last = is_last head;
+            expects = expects_leave body head;
+            upgrade = upgrade_key head;
+          },
           drop (len + body) bytes,
           record {
             len = len;
@@ -60,6 +67,7 @@ next_framed bytes len head has (Ok body) framed = by_length (cases_lt (length by
             target_is = refl;
             body_is = refl;
             last_is = refl;
+            expects_is = refl;
             upgrade_is = refl;
             rest_is = refl;
           },

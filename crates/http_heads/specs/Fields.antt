@@ -54,3 +54,12 @@ some_lists name word fields = list_any (lists_word word) (values_of name fields)
 -- the connection ends after this request: it is of HTTP/1.0, or a Connection header lists `close`
 abbrev pub is_last : RequestHead → Bool
 is_last head = head.minor == 0 || some_lists (codes "connection") (codes "close") (fields_of head)
+
+-- The client waits for leave before it sends the body, which has this length (RFC 9110, section 10.1.1): there is a
+-- body, and an Expect header lists `100-continue`. HTTP/1.0 has no expectations.
+unfoldable pub expects_in : ℕ → ℕ → List (List ℕ × List ℕ) → Bool
+expects_in body minor fields =
+    nat_lt 0 body && minor == 1 && some_lists (codes "expect") (codes "100-continue") fields
+
+abbrev pub expects_leave : ℕ → RequestHead → Bool
+expects_leave body head = expects_in body head.minor (fields_of head)

@@ -1,12 +1,13 @@
 -- The messages of a text, and what stands at their end.
 use Rattle.std.specs.Prelude.{◌≡◌, ℕ, ◌+◌, ◌<◌, ◌≤◌, ◌⊎◌, List, [], ◌∷◌, length, take, drop, Some, None, Ok, Err}
+use Rattle.std.specs.Prelude.{Bool, true, false}
 use Rattle.httparse.specs.Grammar.{RequestHead, ReadsRequest}
 use Rattle.http_heads.specs.Limits.{max_head, max_fields}
 use Rattle.http_heads.specs.declared.request.Request.{Request}
 use Rattle.http_heads.specs.declared.request.HeadFault.{HeadFault}
 use Rattle.http_heads.specs.declared.request.HeadFault.TheVariants.{H1, H2, H3, H4}
 use Rattle.http_heads.specs.Heads.{blank_len, head_len, head_bytes}
-use Rattle.http_heads.specs.Fields.{fields_of, framing, is_last}
+use Rattle.http_heads.specs.Fields.{fields_of, framing, is_last, expects_leave}
 use Rattle.http_heads.specs.Upgrades.{upgrade_key}
 
 -- these bytes are a request head (RFC 9112) of at most 64 headers
@@ -31,8 +32,23 @@ pub record IsMessage (bytes : List ℕ) (message : Request) (rest : List ℕ) : 
   pub target_is : message.target ≡ head.target
   pub body_is : message.body ≡ take body (drop len bytes)
   pub last_is : message.last ≡ is_last head
+  pub expects_is : message.expects ≡ expects_leave body head
   pub upgrade_is : message.upgrade ≡ upgrade_key head
   pub rest_is : rest ≡ drop (len + body) bytes
+
+-- the head of a message is whole here, and its client waits for leave before it sends the body
+pub record AwaitsLeave (bytes : List ℕ) : Type 0 where
+  pub len : ℕ
+  pub head : RequestHead
+  pub body : ℕ
+  pub has : HasHead bytes len head
+  pub framed : framing (fields_of head) ≡ Ok body
+  pub expects : expects_leave body head ≡ true
+
+-- whether leave is awaited here
+abbrev pub TellsLeave : List ℕ → Bool → Type 0
+TellsLeave bytes true = AwaitsLeave bytes
+TellsLeave bytes false = ¬ (AwaitsLeave bytes)
 
 -- only CR and LF stand here, too few to be a head that is too long
 pub record IsBlank (bytes : List ℕ) : Type 0 where

@@ -1,5 +1,5 @@
 -- What is read of the bytes of a head.
-use Rattle.std.specs.Prelude.{◌≡◌, ℕ, List, length, map, All, Ok, Err}
+use Rattle.std.specs.Prelude.{◌≡◌, ℕ, Bool, true, false, List, length, map, All, Ok, Err}
 use Rattle.size_values.specs.declared.memory.Or.{Or}
 use Rattle.size_values.specs.declared.memory.Or.TheVariants as or
 use Rattle.httparse.specs.Grammar.{RequestHead}
@@ -9,7 +9,7 @@ use Rattle.httparse.specs.declared.spans.RequestSpans.{RequestSpans}
 use Rattle.http_heads.specs.declared.head.Head.{Head}
 use Rattle.http_heads.specs.declared.request.HeadFault.{HeadFault}
 use Rattle.http_heads.specs.declared.request.HeadFault.TheVariants.{H1, H2, H3, H4}
-use Rattle.http_heads.specs.Fields.{fields_of, framing, is_last}
+use Rattle.http_heads.specs.Fields.{fields_of, framing, is_last, expects_leave}
 use Rattle.http_heads.specs.Messages.{IsHead}
 use Rattle.http_heads.specs.Upgrades.{upgrade_key}
 
@@ -21,7 +21,21 @@ pub record Says (text : List ℕ) (said : Head) : Type 0 where
   pub method_is : said.method ≡ head.method
   pub target_is : said.target ≡ head.target
   pub last_is : said.last ≡ is_last head
+  pub expects_is : said.expects ≡ expects_leave said.body head
   pub upgrade_is : said.upgrade ≡ upgrade_key head
+
+-- the text is a head that has its client wait for leave before it sends the body
+pub record Expects (text : List ℕ) : Type 0 where
+  pub head : RequestHead
+  pub body : ℕ
+  pub is : IsHead text head
+  pub framed : framing (fields_of head) ≡ Ok body
+  pub expects : expects_leave body head ≡ true
+
+-- whether it is such a head
+abbrev pub TellsExpects : List ℕ → Bool → Type 0
+TellsExpects text true = Expects text
+TellsExpects text false = ¬ (Expects text)
 
 -- the text is a head with this fault in its headers
 pub record IsHeadWith (text : List ℕ) (fault : HeadFault) : Type 0 where

@@ -4,7 +4,7 @@ ghost use Rattle.std.specs.Str.{str_eq_ignore_ascii_case};
 ghost use Rattle.httparse.specs.Grammar.{skip_ows, trim_ows};
 ghost use Rattle.httparse.specs.Spans.{IsWithin, IsHeaderWithin, span_bytes, header_bytes};
 ghost use Rattle.http_heads.specs.Limits.{max_body};
-ghost use Rattle.http_heads.specs.Fields.{values_of, length_in, framing, lists_word, some_lists};
+ghost use Rattle.http_heads.specs.Fields.{values_of, length_in, framing, lists_word, some_lists, expects_in};
 
 use crate::request::{HeadFault, MAX_BODY};
 use httparse::spans::{HeaderSpan, Span};
@@ -79,6 +79,16 @@ fn length_in(text: &[u8]) -> Result<usize, HeadFault>
         return Err(HeadFault::H4);
     }
     Ok(length)
+}
+
+/// Whether the client of a request with this length of the body, version and headers waits for leave before it sends
+/// the body.
+#[tactic(auto, unfolding(crate::specs::Fields::expects_in))]
+pub(crate) fn expects_in(body: usize, minor: u8, bytes: &[u8], headers: &[HeaderSpan]) -> bool
+    requires { All (IsHeaderWithin (length bytes.now)) headers.now }
+    ensures { result ≡ expects_in body minor (map (header_bytes bytes.now) headers.now) }
+{
+    body > 0 && minor == 1 && some_lists(bytes, headers, b"expect", b"100-continue")
 }
 
 /// Whether some header of this name lists the word.

@@ -4,10 +4,10 @@ ghost use Rattle.httparse.specs.Spans.{IsWithin, IsHeaderWithin, span_bytes, hea
 ghost use Rattle.http_heads.specs.Heads.{after_blank};
 ghost use Rattle.http_heads.specs.Limits.{max_body, max_fields};
 ghost use Rattle.http_heads.specs.Messages.{IsHead};
-ghost use Rattle.http_heads.specs.Readings.{Says, HasReason, AreParts};
+ghost use Rattle.http_heads.specs.Readings.{Says, HasReason, AreParts, TellsExpects};
 ghost use Rattle.http_heads.specs.Upgrades.{key_in};
 
-use crate::fields::{framing, some_lists};
+use crate::fields::{expects_in, framing, some_lists};
 use crate::request::{HeadFault, MAX_FIELDS};
 use crate::search::leading_line_bytes;
 use crate::upgrade::key_in;
@@ -18,14 +18,15 @@ use std::alloc::Global;
 use std::marker::Model;
 use std::mem;
 
-/// What a head says: the method, the target, the length of the body, whether the connection ends after it, and the
-/// key of the WebSocket handshake that it asks for.
+/// What a head says: the method, the target, the length of the body, whether the connection ends after it, whether its
+/// client waits for leave before it sends the body, and the key of the WebSocket handshake that it asks for.
 #[derive(Drop)]
 pub struct Head {
     pub method: Text,
     pub target: Text,
     pub body: usize,
     pub last: bool,
+    pub expects: bool,
     pub upgrade: Option<Text>,
 }
 
@@ -81,6 +82,30 @@ pub fn read_head(
     }
 }
 
+/// Whether a whole head, with the CR and LF bytes before it, has its client wait for leave before it sends the body. No
+/// memory is taken.
+pub fn expects_leave(bytes: &[u8], places: &mut HeaderSpans) -> bool
+    ensures { TellsExpects (after_blank bytes.now) result }
+{
+    let text = &bytes[leading_line_bytes(bytes)..];
+    let headers = places.spans.as_mut_slice();
+    match spans_of(text, headers) {
+        Some(spans) => expects_of(text, &headers[..spans.headers], &spans),
+        None => false,
+    }
+}
+
+/// The same of a head with these parts.
+fn expects_of(text: &[u8], headers: &[HeaderSpan], spans: &RequestSpans) -> bool
+    requires { AreParts text.now headers.now spans.now }
+    ensures { TellsExpects text.now result }
+{
+    match framing(text, headers) {
+        Ok(body) => expects_in(body, spans.version, text, headers),
+        Err(_) => false,
+    }
+}
+
 /// Where the parts of a text are, if all of it is one head.
 fn spans_of(text: &[u8], headers: &mut [HeaderSpan]) -> Option<RequestSpans>
     requires { length headers.old ≡ max_fields }
@@ -119,6 +144,7 @@ fn head_of(
         Err(fault) => return Err(Or::Why(fault)),
     };
     let last = spans.version == 0 || some_lists(text, headers, b"connection", b"close");
+    let expects = expects_in(body, spans.version, text, headers);
     let method = text_in(alloc, &mut spare.method, str_of(spans.method.of(text)))?;
     let target = text_in(alloc, &mut spare.target, str_of(spans.path.of(text)))?;
     let upgrade = upgrade_of(alloc, text, headers, spans)?;
@@ -127,6 +153,7 @@ fn head_of(
         target,
         body,
         last,
+        expects,
         upgrade,
     })
 }

@@ -9,7 +9,7 @@ mod request;
 mod search;
 mod upgrade;
 
-pub use head::{Head, HeaderSpans, SpareTexts, read_head};
+pub use head::{Head, HeaderSpans, SpareTexts, expects_leave, read_head};
 pub use laws::{later_bytes, one_ending, one_next_message, one_reading, some_reading};
 pub use request::{
     HeadFault, MAX_BODY, MAX_FIELDS, MAX_HEAD, Request, limits_are_those_of_the_definitions,

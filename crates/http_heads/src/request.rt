@@ -21,14 +21,16 @@ pub fn limits_are_those_of_the_definitions()
 
 /// One request: the method and the target of its request line (RFC 9112, section 3), and its body of
 /// Content-Length bytes. `last` says that the connection ends after its reply: it is of HTTP/1.0, or a
-/// Connection header lists `close`. `upgrade` is the key of the WebSocket handshake that it asks for, if it asks
-/// for one (RFC 6455, section 4.2.1).
+/// Connection header lists `close`. `expects` says that its client waits for leave before it sends the body: it
+/// has one, is of HTTP/1.1, and an Expect header lists `100-continue` (RFC 9110, section 10.1.1). `upgrade` is the
+/// key of the WebSocket handshake that it asks for, if it asks for one (RFC 6455, section 4.2.1).
 #[derive(Drop)]
 pub struct Request {
     pub method: Text,
     pub target: Text,
     pub body: Seq<u8>,
     pub last: bool,
+    pub expects: bool,
     pub upgrade: Option<Text>,
 }
 

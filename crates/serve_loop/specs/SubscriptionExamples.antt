@@ -9,7 +9,14 @@ use Rattle.serve_loop.specs.Filters.{filter_of}
 
 -- a GET of this target that asks for the WebSocket protocol by this key
 abbrev pub get : List ℕ → List ℕ → Request
-get target key = record { method = codes "GET"; target = target; body = []; last = false; upgrade = Some key }
+get target key = record {
+  method = codes "GET";
+  target = target;
+  body = [];
+  last = false;
+  expects = false;
+  upgrade = Some key;
+}
 
 -- lifecycle events or not, operation events or not, and of which project
 abbrev pub events : Bool → Bool → List ℕ → Result (Option Filter) Refusal

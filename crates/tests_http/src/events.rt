@@ -138,6 +138,7 @@ fn request(alloc: Global, method: &str, target: &str, want: Want) -> Result<Requ
         target: Text::from_text(alloc, target)?,
         body: Seq::new(alloc),
         last: false,
+        expects: false,
         upgrade: key_for(alloc, want)?,
     })
 }

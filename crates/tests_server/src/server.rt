@@ -58,6 +58,7 @@ pub(crate) fn request_of(alloc: Global, line: &str) -> Request {
         target: text(alloc, target),
         body: Seq::of_bytes(alloc, body.as_bytes()).unwrap_or(Seq::new(alloc)),
         last: false,
+        expects: false,
         upgrade: None,
     }
 }

@@ -1,0 +1,84 @@
+-- Bytes that are taken in before a request is read, and what they tell of leave.
+use Rattle.std.proofs.Common.{◌≡◌, ℕ, Bool, false, true, List, [], ◌++◌, Option, Some, None, IfSome, sym, ap, ◌∙◌, subst, ◌⊎◌, inl, inr, append_assoc, append-nil, refl}
+use Rattle.std.specs.Io.KnownBytes.{prepend_known, Consumes}
+use Rattle.http_heads.specs.Heads.{head_len, head_bytes}
+use Rattle.http_heads.specs.Messages.{IsMessage, TellsLeave}
+use Rattle.http_heads.specs.Readings.{TellsExpects}
+use Rattle.http_heads.proofs.LeaveLemmas.{TellsLeave-append, TellsLeave-blank, TellsLeave-head, TellsLeave-malformed, TellsLeave-message, TellsLeave-none, TellsLeave-unique}
+use Rattle.http_front.specs.declared.read.Got.{Got}
+use Rattle.http_front.specs.declared.read.Got.TheVariants as got
+use Rattle.http_front.specs.declared.read.Stop.{Stop}
+use Rattle.http_front.specs.declared.read.Stop.TheVariants as stop
+use Rattle.http_front.specs.Held.{TakesIn, got_of}
+use Rattle.http_front.specs.Known.{Known, plain_request}
+use Rattle.http_front.specs.Leave.{LeaveFor, ToldLeave}
+use Rattle.http_front.specs.Reading.{IsUnfinished, KeepsHeld}
+use Rattle.http_front.proofs.KnownLemmas.{consumes-none}
+
+-- nothing is taken in
+pub TakesIn-none : (held : List ℕ) (left : Option (List ℕ)) → TakesIn held held left left
+TakesIn-none held left = record { more = []; grown = sym (append-nil held); from = consumes-none left }
+
+-- ---- a request is read after bytes were taken in
+
+-- the bytes to come are the same
+pub input-after : {old mid : List ℕ} {l m : Option (List ℕ)} (P : List ℕ → Type 0) → TakesIn old mid l m → IfSome (prepend_known mid m) P
+    → IfSome (prepend_known old l) P
+input-after {old} {mid} {l} {m} P h is = by_left l m h.from is
+  where
+    by_left : (known rest : Option (List ℕ)) → Consumes known rest h.more → IfSome (prepend_known mid rest) P → IfSome (prepend_known old known) P
+    by_left None rest from k = tt
+    by_left (Some xs) None from k = absurd from
+    by_left (Some xs) (Some ys) from k =
+        let whole : mid ++ ys ≡ old ++ (h.more ++ ys) = ap (λ b. b ++ ys) h.grown ∙ append_assoc old h.more ys in
+        rw from (subst P whole k)
+
+grown_twice : {old mid : List ℕ} {l m : Option (List ℕ)} (more : List ℕ) (h : TakesIn old mid l m) → mid ++ more ≡ old ++ (h.more ++ more)
+grown_twice {old} more h = ap (λ b. b ++ more) h.grown ∙ append_assoc old h.more more
+
+-- the answer told of the bytes held is the same
+pub held-after : {old mid new : List ℕ} {l m : Option (List ℕ)} (answer : Got) → TakesIn old mid l m → KeepsHeld mid new answer → KeepsHeld old new answer
+held-after {new} (got.Request message) h k = (h.more ++ k.0, subst (λ b. IsMessage b message new) (grown_twice k.0 h) k.1)
+held-after got.End h k = (h.more ++ k.0, k.1 ∙ grown_twice k.0 h, k.2)
+held-after (got.Cut n) h k = (h.more ++ k.0, k.1 ∙ grown_twice k.0 h, k.2, k.3)
+held-after (got.Malformed fault) h k = (h.more ++ k.0, k.1 ∙ grown_twice k.0 h, k.2)
+held-after got.ReadFault h k = (h.more ++ k.0, k.1 ∙ grown_twice k.0 h, k.2)
+held-after got.NoMemory h k = (h.more ++ k.0, k.1 ∙ grown_twice k.0 h)
+
+-- where the source was read, no message was whole
+pub ahead-after : {T : Type 0} {s s' s'' : T} {old mid : List ℕ} → ((s' ≡ s) × (mid ≡ old)) ⊎ IsUnfinished old → (s'' ≡ s') ⊎ IsUnfinished mid
+    → (s'' ≡ s) ⊎ IsUnfinished old
+ahead-after (inr waits) later = inr waits
+ahead-after (inl same) (inl untouched) = inl (untouched ∙ same.0)
+ahead-after (inl same) (inr waits) = inr (subst IsUnfinished same.1 waits)
+
+-- ---- leave
+
+-- what a known head tells
+pub told-known : {bytes rest : List ℕ} {known : Known} → IsMessage bytes (plain_request known) rest → ToldLeave bytes false
+told-known is = record { len = is.len; ends = is.has.ends; tells = TellsLeave-message is }
+
+pub told-head : (bytes : List ℕ) (len : ℕ) (awaited : Bool) → head_len bytes ≡ Some len → TellsExpects (head_bytes len bytes) awaited → ToldLeave bytes awaited
+told-head bytes len awaited ends tells = record { len = len; ends = ends; tells = TellsLeave-head bytes len awaited ends tells }
+
+taken_leave : {mid new : List ℕ} {awaited : Bool} (more : List ℕ) → new ≡ mid ++ more → ToldLeave mid awaited → TellsLeave new awaited
+taken_leave {awaited} more grown t = subst (λ b. TellsLeave b awaited) (sym grown) (TellsLeave-append more t.len awaited t.ends t.tells)
+
+-- what was told before a request was read is what was due
+pub leave-for : {mid new : List ℕ} {awaited : Bool} (answer : Got) → ToldLeave mid awaited → KeepsHeld mid new answer → LeaveFor answer new awaited
+leave-for {mid} {awaited} (got.Request message) t k =
+    TellsLeave-unique (mid ++ k.0) message.expects awaited (TellsLeave-message k.1) (taken_leave k.0 refl t)
+leave-for {new} {awaited} got.End t k = TellsLeave-unique new awaited false (taken_leave k.0 k.1 t) (TellsLeave-blank k.2)
+leave-for (got.Cut n) t k = taken_leave k.0 k.1 t
+leave-for {new} {awaited} (got.Malformed fault) t k =
+    TellsLeave-unique new awaited false (taken_leave k.0 k.1 t) (TellsLeave-malformed new fault k.2)
+leave-for got.ReadFault t k = taken_leave k.0 k.1 t
+leave-for got.NoMemory t k = taken_leave k.0 k.1 t
+
+-- no leave is due where no head is whole
+pub leave-none : {held : List ℕ} (s : Stop) → head_len held ≡ None → LeaveFor (got_of s) held false
+leave-none stop.End none = refl
+leave-none (stop.Cut n) none = TellsLeave-none none
+leave-none (stop.Malformed fault) none = refl
+leave-none stop.ReadFault none = TellsLeave-none none
+leave-none stop.NoMemory none = TellsLeave-none none
