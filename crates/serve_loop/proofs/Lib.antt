@@ -8,5 +8,6 @@ mod SubscriptionLemmas
 mod SessionParts
 mod SourceLooks
 mod Taking
+mod Leaving
 mod Linking
 mod Served
