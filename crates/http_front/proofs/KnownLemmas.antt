@@ -1,13 +1,17 @@
 -- What a known head says of bytes that begin with it.
-use Rattle.std.proofs.Common.{◌≡◌, ℕ, ◌-◌, ◌≤◌, true, ◌⊎◌, inl, inr, List, [], ◌++◌, length, take, drop, Option, Some, None, refl, sym, ap, subst, ◌∙◌, append-nil, take-append-drop, length-take, arith}
+use Rattle.std.proofs.Common.{◌≡◌, ℕ, ◌+◌, ◌-◌, ◌≤◌, true, false, inl, inr, List, [], ◌++◌, length, take, drop, Option, Some, None, Ok, is_some, refl, sym, ap, subst, ◌∙◌, append-nil, take-append-drop, length-take, arith}
 use Rattle.std.specs.Io.KnownBytes.{Consumes}
+use Rattle.std.proofs.lemmas.List.{drop_all, take_all}
 use Rattle.std.specs.Str.{bytes_eq}
 use Rattle.std.proofs.lemmas.Slice.Eq.{bytes_eq-Decides}
-use Rattle.http_heads.specs.Heads.{head_len}
-use Rattle.http_heads.specs.Messages.{IsMessage}
+use Rattle.http_heads.specs.Heads.{after_blank, head_len}
+use Rattle.http_heads.specs.Messages.{IsHead, IsMessage}
+use Rattle.http_heads.specs.Readings.{Says}
+use Rattle.http_heads.specs.declared.head.Head.{Head}
 use Rattle.http_heads.specs.declared.request.Request.{Request}
 use Rattle.http_heads.proofs.LengthLemmas.{head_len-front}
 use Rattle.http_heads.proofs.SearchLemmas.{rest_of_slice}
+use Rattle.http_heads.proofs.LeaveLemmas.{expects-no_body}
 use Rattle.http_heads.proofs.MessageLemmas.{IsMessage-append}
 use Rattle.http_front.specs.Held.{Takes}
 use Rattle.http_front.specs.Known.{Known, IsKnown, plain_request}
@@ -37,3 +41,29 @@ consumes-none (Some bytes) = refl
 pub Takes-held : {old new : List ℕ} {request : Request} (left : Option (List ℕ)) → IsMessage old request new → Takes old new left left request
 Takes-held {old} {new} {request} left is =
     record { more = []; is = subst (λ b. IsMessage b request new) (sym (append-nil old)) is; from = consumes-none left }
+
+not_some : (upgrade : Option (List ℕ)) → is_some upgrade ≡ false → None ≡ upgrade
+not_some None is = refl
+not_some (Some key) is = cc
+
+-- a head that is noted is the whole message that its plain request is
+pub known-noted : (items bytes : List ℕ) (said : Head) (known : Known) → items ≡ bytes → head_len bytes ≡ Some (length bytes) → Says (after_blank bytes) said
+    → said.body ≡ 0 → said.last ≡ false → is_some said.upgrade ≡ false → known.method ≡ said.method → known.target ≡ said.target → IsKnown items known
+known-noted items bytes said known same ends says no_body going plain method target = rw same (inr (record {
+  len = length bytes;
+  head = says.head;
+  body = 0;
+  has = record {
+    ends = ends;
+    is = subst (λ b. IsHead (after_blank b) says.head) (sym (take_all (length bytes) bytes (omega arith))) says.is;
+  };
+  framed = says.framed ∙ ap Ok no_body;
+  whole = omega arith;
+  method_is = method ∙ says.method_is;
+  target_is = target ∙ says.target_is;
+  body_is = refl;
+  last_is = sym going ∙ says.last_is;
+  expects_is = expects-no_body says.head;
+  upgrade_is = not_some said.upgrade plain ∙ says.upgrade_is;
+  rest_is = sym (drop_all (length bytes + 0) bytes (omega arith));
+}))

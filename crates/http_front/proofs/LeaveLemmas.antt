@@ -1,15 +1,17 @@
 -- Bytes that are taken in before a request is read, and what they tell of leave.
-use Rattle.std.proofs.Common.{◌≡◌, ℕ, Bool, false, true, List, [], ◌++◌, Option, Some, None, IfSome, sym, ap, ◌∙◌, subst, ◌⊎◌, inl, inr, append_assoc, append-nil, refl}
+use Rattle.std.proofs.Common.{◌≡◌, ℕ, ◌-◌, Bool, false, true, List, [], ◌++◌, length, take, drop, Option, Some, None, IfSome, is_some, sym, ap, ◌∙◌, subst, ◌⊎◌, inl, inr, append_assoc, append-nil, refl}
 use Rattle.std.specs.Io.KnownBytes.{prepend_known, Consumes}
-use Rattle.http_heads.specs.Heads.{head_len, head_bytes}
+use Rattle.http_heads.specs.Heads.{head_len, head_bytes, after_blank}
 use Rattle.http_heads.specs.Messages.{IsMessage, TellsLeave}
 use Rattle.http_heads.specs.Readings.{TellsExpects}
+use Rattle.http_heads.proofs.MessageLemmas.{IsUnfinished-of_none}
+use Rattle.http_heads.proofs.SearchLemmas.{rest_of_slice}
 use Rattle.http_heads.proofs.LeaveLemmas.{TellsLeave-append, TellsLeave-blank, TellsLeave-head, TellsLeave-malformed, TellsLeave-message, TellsLeave-none, TellsLeave-unique}
 use Rattle.http_front.specs.declared.read.Got.{Got}
 use Rattle.http_front.specs.declared.read.Got.TheVariants as got
 use Rattle.http_front.specs.declared.read.Stop.{Stop}
 use Rattle.http_front.specs.declared.read.Stop.TheVariants as stop
-use Rattle.http_front.specs.Held.{TakesIn, got_of}
+use Rattle.http_front.specs.Held.{IsHeadAwaited, TakesIn, got_of}
 use Rattle.http_front.specs.Known.{Known, plain_request}
 use Rattle.http_front.specs.Leave.{LeaveFor, ToldLeave}
 use Rattle.http_front.specs.Reading.{IsUnfinished, KeepsHeld}
@@ -37,15 +39,20 @@ grown_twice : {old mid : List ℕ} {l m : Option (List ℕ)} (more : List ℕ) (
 grown_twice {old} more h = ap (λ b. b ++ more) h.grown ∙ append_assoc old h.more more
 
 -- the answer told of the bytes held is the same
-pub held-after : {old mid new : List ℕ} {l m : Option (List ℕ)} (answer : Got) → TakesIn old mid l m → KeepsHeld mid new answer → KeepsHeld old new answer
-held-after {new} (got.Request message) h k = (h.more ++ k.0, subst (λ b. IsMessage b message new) (grown_twice k.0 h) k.1)
-held-after got.End h k = (h.more ++ k.0, k.1 ∙ grown_twice k.0 h, k.2)
-held-after (got.Cut n) h k = (h.more ++ k.0, k.1 ∙ grown_twice k.0 h, k.2, k.3)
-held-after (got.Malformed fault) h k = (h.more ++ k.0, k.1 ∙ grown_twice k.0 h, k.2)
-held-after got.ReadFault h k = (h.more ++ k.0, k.1 ∙ grown_twice k.0 h, k.2)
-held-after got.NoMemory h k = (h.more ++ k.0, k.1 ∙ grown_twice k.0 h)
+pub held-after : {old mid : List ℕ} {l m : Option (List ℕ)} (new : List ℕ) (answer : Got) → TakesIn old mid l m → KeepsHeld mid new answer
+    → KeepsHeld old new answer
+held-after new (got.Request message) h k = (h.more ++ k.0, subst (λ b. IsMessage b message new) (grown_twice k.0 h) k.1)
+held-after new got.End h k = (h.more ++ k.0, k.1 ∙ grown_twice k.0 h, k.2)
+held-after new (got.Cut n) h k = (h.more ++ k.0, k.1 ∙ grown_twice k.0 h, k.2, k.3)
+held-after new (got.Malformed fault) h k = (h.more ++ k.0, k.1 ∙ grown_twice k.0 h, k.2)
+held-after new got.ReadFault h k = (h.more ++ k.0, k.1 ∙ grown_twice k.0 h, k.2)
+held-after new got.NoMemory h k = (h.more ++ k.0, k.1 ∙ grown_twice k.0 h)
 
--- where the source was read, no message was whole
+-- where the source was read, no head was whole, and so no message
+pub ahead-unfinished : {T : Type 0} {s s' : T} {b b' : List ℕ} → ((s' ≡ s) × (b' ≡ b)) ⊎ IsHeadAwaited b → ((s' ≡ s) × (b' ≡ b)) ⊎ IsUnfinished b
+ahead-unfinished (inl same) = inl same
+ahead-unfinished {b} (inr awaited) = inr (IsUnfinished-of_none b awaited.0 awaited.1)
+
 pub ahead-after : {T : Type 0} {s s' s'' : T} {old mid : List ℕ} → ((s' ≡ s) × (mid ≡ old)) ⊎ IsUnfinished old → (s'' ≡ s') ⊎ IsUnfinished mid
     → (s'' ≡ s) ⊎ IsUnfinished old
 ahead-after (inr waits) later = inr waits
@@ -54,31 +61,46 @@ ahead-after (inl same) (inr waits) = inr (subst IsUnfinished same.1 waits)
 
 -- ---- leave
 
--- what a known head tells
-pub told-known : {bytes rest : List ℕ} {known : Known} → IsMessage bytes (plain_request known) rest → ToldLeave bytes false
-told-known is = record { len = is.len; ends = is.has.ends; tells = TellsLeave-message is }
+told_message : {bytes rest : List ℕ} {known : Known} → IsMessage bytes (plain_request known) rest → ToldLeave bytes false
+told_message is = record { len = is.len; ends = is.has.ends; tells = TellsLeave-message is }
 
-pub told-head : (bytes : List ℕ) (len : ℕ) (awaited : Bool) → head_len bytes ≡ Some len → TellsExpects (head_bytes len bytes) awaited → ToldLeave bytes awaited
-told-head bytes len awaited ends tells = record { len = len; ends = ends; tells = TellsLeave-head bytes len awaited ends tells }
+-- what the known head tells, where the bytes that are held begin with it
+pub told-known : (start : ℕ) (bytes items held : List ℕ) (found : Option ℕ) (known : Known) → bytes ≡ items → drop start items ≡ held
+    → (let front = take (length bytes - start) (drop start bytes) in IfSome found (λ len. IsMessage front (plain_request known) (drop len front)))
+    → is_some found ≡ true → ToldLeave held false
+told-known start bytes items held None known same view is some = cc
+told-known start bytes items held (Some len) known same view is some =
+    let whole : take (length bytes - start) (drop start bytes) ≡ held = rest_of_slice start bytes ∙ ap (drop start) same ∙ view in
+    subst (λ b. ToldLeave b false) whole (told_message is)
 
-taken_leave : {mid new : List ℕ} {awaited : Bool} (more : List ℕ) → new ≡ mid ++ more → ToldLeave mid awaited → TellsLeave new awaited
-taken_leave {awaited} more grown t = subst (λ b. TellsLeave b awaited) (sym grown) (TellsLeave-append more t.len awaited t.ends t.tells)
+-- what the first bytes that are held tell, which are a head
+pub told-head : (len start : ℕ) (bytes items held : List ℕ) (awaited : Bool) → bytes ≡ items → drop start items ≡ held → head_len held ≡ Some len
+    → TellsExpects (after_blank (take len (take (length bytes - start) (drop start bytes)))) awaited → ToldLeave held awaited
+told-head len start bytes items held awaited same view ends tells =
+    let whole : take (length bytes - start) (drop start bytes) ≡ held = rest_of_slice start bytes ∙ ap (drop start) same ∙ view in
+    let is : TellsExpects (head_bytes len held) awaited = subst (λ b. TellsExpects (head_bytes len b) awaited) whole tells in
+    record { len = len; ends = ends; tells = TellsLeave-head held len awaited ends is }
+
+taken_leave : (mid new : List ℕ) (awaited : Bool) (more : List ℕ) → new ≡ mid ++ more → ToldLeave mid awaited → TellsLeave new awaited
+taken_leave mid new awaited more grown t =
+    subst (λ b. TellsLeave b awaited) (sym grown) (TellsLeave-append mid more t.len awaited t.ends t.tells)
 
 -- what was told before a request was read is what was due
-pub leave-for : {mid new : List ℕ} {awaited : Bool} (answer : Got) → ToldLeave mid awaited → KeepsHeld mid new answer → LeaveFor answer new awaited
-leave-for {mid} {awaited} (got.Request message) t k =
-    TellsLeave-unique (mid ++ k.0) message.expects awaited (TellsLeave-message k.1) (taken_leave k.0 refl t)
-leave-for {new} {awaited} got.End t k = TellsLeave-unique new awaited false (taken_leave k.0 k.1 t) (TellsLeave-blank k.2)
-leave-for (got.Cut n) t k = taken_leave k.0 k.1 t
-leave-for {new} {awaited} (got.Malformed fault) t k =
-    TellsLeave-unique new awaited false (taken_leave k.0 k.1 t) (TellsLeave-malformed new fault k.2)
-leave-for got.ReadFault t k = taken_leave k.0 k.1 t
-leave-for got.NoMemory t k = taken_leave k.0 k.1 t
+pub leave-for : (mid new : List ℕ) (awaited : Bool) (answer : Got) → ToldLeave mid awaited → KeepsHeld mid new answer → LeaveFor answer new awaited
+leave-for mid new awaited (got.Request message) t k =
+    TellsLeave-unique (mid ++ k.0) message.expects awaited (TellsLeave-message k.1) (taken_leave mid (mid ++ k.0) awaited k.0 refl t)
+leave-for mid new awaited got.End t k =
+    TellsLeave-unique new awaited false (taken_leave mid new awaited k.0 k.1 t) (TellsLeave-blank k.2)
+leave-for mid new awaited (got.Cut n) t k = taken_leave mid new awaited k.0 k.1 t
+leave-for mid new awaited (got.Malformed fault) t k =
+    TellsLeave-unique new awaited false (taken_leave mid new awaited k.0 k.1 t) (TellsLeave-malformed new fault k.2)
+leave-for mid new awaited got.ReadFault t k = taken_leave mid new awaited k.0 k.1 t
+leave-for mid new awaited got.NoMemory t k = taken_leave mid new awaited k.0 k.1 t
 
 -- no leave is due where no head is whole
-pub leave-none : {held : List ℕ} (s : Stop) → head_len held ≡ None → LeaveFor (got_of s) held false
-leave-none stop.End none = refl
-leave-none (stop.Cut n) none = TellsLeave-none none
-leave-none (stop.Malformed fault) none = refl
-leave-none stop.ReadFault none = TellsLeave-none none
-leave-none stop.NoMemory none = TellsLeave-none none
+pub leave-none : (held : List ℕ) (s : Stop) → head_len held ≡ None → LeaveFor (got_of s) held false
+leave-none held stop.End none = refl
+leave-none held (stop.Cut n) none = TellsLeave-none none
+leave-none held (stop.Malformed fault) none = refl
+leave-none held stop.ReadFault none = TellsLeave-none none
+leave-none held stop.NoMemory none = TellsLeave-none none

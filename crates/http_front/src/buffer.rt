@@ -129,7 +129,8 @@ impl Buffer {
 
     /// Whether the bytes begin with the head that was noted. Its request has no body.
     pub(crate) fn begins_known(&self) -> bool
-        ensures { result ≡ true → ToldLeave self.now false }
+        ensures told { result ≡ true → ToldLeave self.now false }
+        ensures few { length self.now ≤ most_held }
     {
         self.known.begins(&self.bytes[self.start..]).is_some()
     }

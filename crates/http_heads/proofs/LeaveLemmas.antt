@@ -7,7 +7,7 @@ use Rattle.httparse.proofs.GrammarLemmas.{request_unique}
 use Rattle.http_heads.specs.declared.request.Request.{Request}
 use Rattle.http_heads.specs.declared.request.HeadFault.{HeadFault}
 use Rattle.http_heads.specs.Heads.{head_len, after_blank, head_bytes}
-use Rattle.http_heads.specs.Fields.{fields_of, framing, expects_leave}
+use Rattle.http_heads.specs.Fields.{fields_of, framing, expects_in, expects_leave}
 use Rattle.http_heads.specs.Messages.{IsHead, IsMessage, IsBlank, IsMalformed, AwaitsLeave, TellsLeave}
 use Rattle.http_heads.specs.Readings.{TellsExpects}
 use Rattle.http_heads.proofs.LengthLemmas.{head_len-append, head_len-le}
@@ -103,6 +103,10 @@ TellsLeave-append bytes more len true ends h = AwaitsLeave-append more h
 TellsLeave-append bytes more len false ends h = λ k. h (AwaitsLeave-front more len ends k)
 
 -- ---- where no leave is awaited
+
+pub expects-no_body : (head : RequestHead) → false ≡ expects_leave 0 head
+unfolding expects_in
+expects-no_body head = refl
 
 pub TellsLeave-none : {bytes : List ℕ} → head_len bytes ≡ None → TellsLeave bytes false
 TellsLeave-none {bytes} none = λ k. let e : None ≡ Some k.len = sym none ∙ k.has.ends in cc

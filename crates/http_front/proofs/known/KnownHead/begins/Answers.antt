@@ -1,7 +1,5 @@
-use Rattle.std.proofs.Common.{◌≡◌, ℕ, ◌==◌, Bool, true, false, List, [], length, take, sym, ap, subst, ◌∙◌}
+use Rattle.std.proofs.Common.{◌≡◌, ℕ, ◌==◌, Bool, true, false, List, [], length, take, sym, ap, ◌∙◌}
 use Rattle.std.specs.Str.{bytes_eq}
-use Rattle.http_heads.specs.Messages.{IsMessage}
-use Rattle.http_front.specs.Known.{plain_request}
 use Rattle.http_front.proofs.KnownLemmas.{known-front}
 use Rattle.http_front.proofs.known.KnownHead.begins.Goals as goal
 
