@@ -1,5 +1,5 @@
 -- Bells: which of them a turn rings, and after which turn each rang last.
-use Rattle.std.specs.Prelude.{ℕ, Bool, true, false, if◌then◌else◌}
+use Rattle.std.specs.Prelude.{ℕ, Bool, false, if◌then◌else◌}
 use Rattle.turnstile.specs.declared.bells.Bell.{Bell}
 use Rattle.turnstile.specs.declared.bells.Bell.TheVariants as bell
 use Rattle.turnstile.specs.declared.bells.LastRung.{LastRung}
