@@ -1,4 +1,4 @@
-mod Answering
+mod CommandAnswers
 mod Reaching
 mod Waiting
 mod Working
@@ -6,7 +6,6 @@ mod ExampleLemmas
 mod FilterLemmas
 mod SubscriptionLemmas
 mod SessionParts
-mod SourceLooks
 mod Taking
 mod Leaving
 mod Linking

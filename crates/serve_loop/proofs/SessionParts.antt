@@ -58,9 +58,9 @@ owed_along boot owed xs ys =
     ap (λ l. owed ++ l) (flat_map-append (said boot) xs ys)
     ∙ sym (append_assoc owed (said_along boot xs) (said_along boot ys))
 
-between_along : {xs ys : List Doing} {a b c : Seen} → Between (items xs) a b → Between (items ys) b c
+between_along : {a b c : Seen} (xs ys : List Doing) → Between (items xs) a b → Between (items ys) b c
     → Between (items (xs ++ ys)) a c
-between_along {xs} {ys} {a} {b} {c} first then =
+between_along {a} {b} {c} xs ys first then =
     subst (λ l. Between l a c) (sym (items_append xs ys)) (between-append first then)
 
 -- ---- one part after another
@@ -70,7 +70,7 @@ pub hears_twice : {boot : ℕ} {filter : Filter} {owed : List ℕ} {a b c : Even
 hears_twice {boot} {filter} {owed} {a} {b} {c} first then = record {
   trail = first.trail ++ then.trail;
   due = chain-append first.due then.due;
-  gate = between_along first.gate then.gate;
+  gate = between_along first.trail then.trail first.gate then.gate;
   read = chain-append first.read then.read;
   sent = subst (Takes a.sink c.sink) (sym (owed_along boot owed first.trail then.trail))
       (takes_twice first.sent then.sent);
@@ -84,7 +84,7 @@ hears_then {boot} {filter} {owed} {a} {b} {source} {gate} {sink} {ends} first th
   trail = first.trail ++ then.trail;
   stage = then.stage;
   due = chain-append first.due then.due;
-  gate_is = between_along first.gate then.gate_is;
+  gate_is = between_along first.trail then.trail first.gate then.gate_is;
   read = chain-append first.read then.read;
   written = subst (Ends ends then.stage a.sink sink) (sym (owed_along boot owed first.trail then.trail))
       (ends_after a.sink b.sink sink (owed ++ said_along boot first.trail) (said_along boot then.trail) then.stage ends
@@ -307,12 +307,12 @@ came_goes {source} {source'} {held} {held'} cursor g s l is given =
     }
 
 -- the source has ended, and the session left
-pub over_leaves : {boot : ℕ} {filter : Filter} {source source' later : Feed} {held held' : List ℕ} {cursor : ℕ}
-    {g gate : Seen} {s sink : Outlet} {ends : SessionEnd} (l : Looked) → l ≡ shown.Over
+pub over_leaves : {boot : ℕ} {filter : Filter} {source source' later : Feed} {held : List ℕ} {cursor : ℕ}
+    {g gate : Seen} {s sink : Outlet} {ends : SessionEnd} (held' : List ℕ) (l : Looked) → l ≡ shown.Over
     → Looks l source held source' held'
     → Leaves boot filter away_frame (event_world (ended end.Ended) source' g s) later gate sink ends
     → Leaves boot filter [] (event_world (looking cursor held) source g s) later gate sink ends
-over_leaves {source} {source'} {held} {held'} l is given leaves =
+over_leaves {source} {source'} {held} held' l is given leaves =
     let looks : Looks shown.Over source held source' held' = subst (λ m. Looks m source held source' held') is given in
     record {
       trail = looked over ∷ leaves.trail;
@@ -324,10 +324,10 @@ over_leaves {source} {source'} {held} {held'} l is given leaves =
     }
 
 -- the read failed
-pub broken_leaves : {boot : ℕ} {filter : Filter} {source source' : Feed} {held held' : List ℕ} {cursor : ℕ} (g : Seen)
-    (s : Outlet) (l : Looked) → l ≡ shown.Broken → Looks l source held source' held'
+pub broken_leaves : {boot : ℕ} {filter : Filter} {source source' : Feed} {held : List ℕ} {cursor : ℕ} (held' : List ℕ)
+    (g : Seen) (s : Outlet) (l : Looked) → l ≡ shown.Broken → Looks l source held source' held'
     → Leaves boot filter [] (event_world (looking cursor held) source g s) source' g s end.ReadFault
-broken_leaves {source} {source'} {held} {held'} g s l is given =
+broken_leaves {source} {source'} {held} held' g s l is given =
     let looks : Looks shown.Broken source held source' held' = subst (λ m. Looks m source held source' held') is given in
     record {
       trail = looked broken ∷ [];
@@ -400,41 +400,42 @@ unmade reply.Pong cursor = refl
 unmade (reply.Close code) cursor = refl
 
 -- what stood next was answered so
-answers_goes : {boot : ℕ} {filter : Filter} {source : Feed} {g : Seen} {s s' : Outlet} (next : Next)
+answers_goes : (boot : ℕ) (filter : Filter) (source : Feed) (g : Seen) (s s' : Outlet) (next : Next)
     (held held' : List ℕ) (cursor : ℕ) → next ≡ next_in held
     → after_next cursor held next ≡ after_answer cursor (rest_at next held) (answer_at next)
     → (a : FrameAnswer) → answer_at next ≡ a → (written : Written) → Sends written (said boot (heard next)) s s'
     → KeepsRest written next held held'
     → GoesOn boot filter [] (event_world (hearing cursor held) source g s) (post_after written a cursor) held' source g s'
-answers_goes next held held' cursor is then reply.Nothing e how.Whole takes rest =
+answers_goes boot filter source g s s' next held held' cursor is then reply.Nothing e how.Whole takes rest =
     heard_on next held cursor (hearing cursor held') is
     (ap (hearing cursor) rest ∙ sym (then ∙ ap (after_answer cursor (rest_at next held)) e)) takes
-answers_goes next held held' cursor is then reply.Pong e how.Whole takes rest =
+answers_goes boot filter source g s s' next held held' cursor is then reply.Pong e how.Whole takes rest =
     heard_on next held cursor (hearing cursor held') is
     (ap (hearing cursor) rest ∙ sym (then ∙ ap (after_answer cursor (rest_at next held)) e)) takes
-answers_goes {boot} {s} {s'} next held held' cursor is then (reply.Close code) e how.Whole takes rest =
+answers_goes boot filter source g s s' next held held' cursor is then (reply.Close code) e how.Whole takes rest =
     heard_out next held cursor (end.Closed code) is (
       then ∙ ap (after_answer cursor (rest_at next held)) e,
       subst (Takes s s') (sym (append-nil (said boot (heard next)))) takes,
     )
-answers_goes {boot} {filter} {source} {g} {s} {s'} next held held' cursor is then a e how.WriteFault breaks rest =
+answers_goes boot filter source g s s' next held held' cursor is then a e how.WriteFault breaks rest =
     subst (λ p. GoesOn boot filter [] (event_world (hearing cursor held) source g s) p held' source g s')
     (sym (unwritten a cursor))
     (heard_out next held cursor end.WriteFault is (front_more [] (front_broken breaks), breaks.rose))
-answers_goes {boot} {filter} {source} {g} {s} {s'} next held held' cursor is then a e how.NoMemory same rest =
+answers_goes boot filter source g s s' next held held' cursor is then a e how.NoMemory same rest =
     subst (λ p. GoesOn boot filter [] (event_world (hearing cursor held) source g s) p held' source g s')
     (sym (unmade a cursor))
     (heard_out next held cursor end.NoMemory is (front_same (said boot (heard next) ++ []) same))
 
-pub answered_goes : {boot : ℕ} {filter : Filter} {source : Feed} {g : Seen} {s s' : Outlet} {next : Next}
-    {held held' : List ℕ} {cursor : ℕ} {goes : ListenState} → next ≡ next_in held
+pub answered_goes : {s s' : Outlet} {next : Next} {held held' : List ℕ} {cursor : ℕ} {goes : ListenState} (boot : ℕ)
+    (filter : Filter) (source : Feed) (g : Seen) → next ≡ next_in held
     → after_next cursor held next ≡ after_answer cursor (rest_at next held) (answer_at next)
     → Answered next cursor goes held held' s s'
     → GoesOn boot filter [] (event_world (hearing cursor held) source g s) goes held' source g s'
-answered_goes {boot} {filter} {source} {g} {s} {s'} {next} {held} {held'} {cursor} {goes} is then answered =
+answered_goes {s} {s'} {next} {held} {held'} {cursor} {goes} boot filter source g is then answered =
     subst (λ p. GoesOn boot filter [] (event_world (hearing cursor held) source g s) p held' source g s')
     (sym answered.goes_is)
-    (answers_goes next held held' cursor is then (answer_at next) refl answered.written answered.sends answered.rest)
+    (answers_goes boot filter source g s s' next held held' cursor is then (answer_at next) refl answered.written
+    answered.sends answered.rest)
 
 pub keeps_rest : (written : Written) (next : Next) (held held' : List ℕ) → held' ≡ rest_at next held
     → KeepsRest written next held held'
@@ -443,12 +444,12 @@ keeps_rest how.WriteFault next held held' is = tt
 keeps_rest how.NoMemory next held held' is = tt
 
 -- an answer to a whole frame
-pub hears_frame : {s s' : Outlet} {goes : ListenState} {held held' : List ℕ} {written : Written} {a : FrameAnswer}
-    {payload : List ℕ} (header : FrameHeader) (unmasked rest : List ℕ) (cursor : ℕ) → payload ≡ unmasked
+pub hears_frame : {s s' : Outlet} {goes : ListenState} {held held' : List ℕ} {a : FrameAnswer} {payload : List ℕ}
+    (header : FrameHeader) (unmasked rest : List ℕ) (cursor : ℕ) (written : Written) → payload ≡ unmasked
     → a ≡ answer_to header payload → Sends written (answer_text a payload) s s'
     → goes ≡ post_after written a cursor → held' ≡ rest
     → Answered (whole header unmasked rest) cursor goes held held' s s'
-hears_frame {s} {s'} {goes} {held} {held'} {written} {a} {payload} header unmasked rest cursor same is sends goes_is rest_is =
+hears_frame {s} {s'} {goes} {held} {held'} {a} {payload} header unmasked rest cursor written same is sends goes_is rest_is =
     let a_is : a ≡ answer_to header unmasked = is ∙ ap (answer_to header) same in
     record {
       written = written;
@@ -465,11 +466,11 @@ unheard next cursor held s =
     record { written = how.NoMemory; sends = refl; goes_is = sym (unmade (answer_at next) cursor); rest = tt }
 
 -- an answer to what is no frame
-pub refuses : {s s' : Outlet} {goes : ListenState} {written : Written} (next : Next) (held : List ℕ) (code cursor : ℕ)
+pub refuses : {s s' : Outlet} {goes : ListenState} (next : Next) (held : List ℕ) (code cursor : ℕ) (written : Written)
     → answer_at next ≡ reply.Close (Some code) → rest_at next held ≡ held
     → Sends written (answer_text (reply.Close (Some code)) []) s s'
     → goes ≡ post_after written (reply.Close (Some code)) cursor → Answered next cursor goes held held s s'
-refuses {s} {s'} {written} next held code cursor is same sends goes_is = record {
+refuses {s} {s'} next held code cursor written is same sends goes_is = record {
   written = written;
   sends = subst (λ b. Sends written (answer_text b (payload_at next)) s s') (sym is) sends;
   goes_is = goes_is ∙ ap (λ b. post_after written b cursor) (sym is);

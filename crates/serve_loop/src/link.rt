@@ -251,7 +251,8 @@ fn serve_from_empty<T: Wait, G: Gate, S: Source, K: Sink, C: Clock>(
 /// replies (HTTP/1.1, RFC 9112, section 9), until one subscribes to events. There is no limit to
 /// their number. A request asks for its command once, and a wait is looked at, and the gate
 /// idles once after each look that shows its operation live: until it has ended, until the clock is
-/// at the deadline, or until it idled a million times for the whole time of an idle. The boot word is that of the ids of operations.
+/// at the deadline, or until it idled a million times for the whole time of an idle. The boot word
+/// is that of the ids of operations.
 pub fn serve_link<T: Wait, G: Gate, S: Source, K: Sink, C: Clock>(
     rt: &T,
     alloc: Global,

@@ -10,11 +10,11 @@ returns-in-Ok-Came g c = λ boot filter gate. came_goes c.args.cursor gate _ _ c
     c.in-Ok-Came.ensures.ok
 
 pub returns-in-Ok-Over : goal.returns-in-Ok-Over
-returns-in-Ok-Over g c = λ boot filter gate. over_leaves _ c.in-Ok-Over.field-0-is c.in-Ok-Over.ensures.ok
+returns-in-Ok-Over g c = λ boot filter gate. over_leaves _ _ c.in-Ok-Over.field-0-is c.in-Ok-Over.ensures.ok
     (c.leave.ensures boot filter _ gate)
 
 pub returns-in-Ok-Broken : goal.returns-in-Ok-Broken
-returns-in-Ok-Broken g c = λ boot filter gate. broken_leaves gate _ _ c.in-Ok-Broken.field-0-is
+returns-in-Ok-Broken g c = λ boot filter gate. broken_leaves _ gate _ _ c.in-Ok-Broken.field-0-is
     c.in-Ok-Broken.ensures.ok
 
 pub returns-in-Err : goal.returns-in-Err

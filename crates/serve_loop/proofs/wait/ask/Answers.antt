@@ -2,7 +2,7 @@ use Rattle.std.proofs.Common.{sym, ◌∙◌, subst}
 use Rattle.row_machine.specs.declared.events.Event.TheVariants as event
 use Rattle.gates.specs.History.{MayAnswer}
 use Rattle.gates.proofs.Walking.{walk-append}
-use Rattle.serve_loop.proofs.Answering.{for_client, hold_waits}
+use Rattle.serve_loop.proofs.CommandAnswers.{for_client, hold_waits}
 use Rattle.serve_loop.proofs.Waiting.{asks, holds, replies}
 use Rattle.serve_loop.proofs.wait.ask.Goals as goal
 

@@ -1,4 +1,4 @@
-use Rattle.serve_loop.proofs.Answering.{at_once}
+use Rattle.serve_loop.proofs.CommandAnswers.{at_once}
 use Rattle.serve_loop.proofs.Waiting.{shows}
 use Rattle.serve_loop.proofs.wait.show.Goals as goal
 
