@@ -7,5 +7,6 @@ mod FilterLemmas
 mod SubscriptionLemmas
 mod SessionParts
 mod Taking
+mod Leaving
 mod Linking
 mod Served

@@ -1,17 +1,19 @@
 -- A link, from what its parts ensure.
-use Rattle.std.proofs.Common.{◌≡◌, ◌≢◌, ◌≤◌, ◌⊎◌, ◌++◌, ℕ, List, [], ◌∷◌, length, Bool, true, false, refl, ap, sym, subst}
+use Rattle.std.proofs.Common.{◌≡◌, ◌≢◌, ◌≤◌, ◌⊎◌, ◌++◌, ℕ, List, [], ◌∷◌, length, Bool, true, false, refl, ap, sym, subst, ◌∙◌}
 use Rattle.std.proofs.Common.{None, inl, inr, arith}
 use Rattle.size_values.specs.Causes.{Rose}
 use Rattle.http_heads.specs.declared.request.HeadFault.{HeadFault}
 use Rattle.http_heads.specs.declared.request.Request.{Request}
 use Rattle.http_front.specs.Held.{most_held}
+use Rattle.http_heads.specs.Messages.{TellsLeave}
+use Rattle.http_front.specs.declared.read.Got.{Got}
 use Rattle.http_front.specs.declared.read.Got.TheVariants as got
 use Rattle.records.specs.declared.replies.Reply.{Reply}
 use Rattle.records.specs.declared.replies.Reply.TheVariants as reply
 use Rattle.gates.specs.Gates.{Between}
 use Rattle.gates.specs.History.{Item}
 use Rattle.gates.proofs.Histories.{between-append, between-none}
-use Rattle.gates.specs.rest_answers.specs.Links.{BreaksOff, Takes}
+use Rattle.gates.specs.rest_answers.specs.Links.{BreaksOff, Outlet, Takes}
 use Rattle.gates.specs.rest_answers.specs.Texts.{HasText, IsUnprinted, printed, text_for}
 use Rattle.gates.specs.rest_answers.specs.Writing.{RefusesPlace, WritesAnswer}
 use Rattle.gates.specs.rest_answers.specs.declared.answers.PrintedReply.{PrintedReply}
@@ -19,25 +21,28 @@ use Rattle.gates.specs.rest_answers.specs.declared.writing.Written.{Written}
 use Rattle.gates.specs.rest_answers.specs.declared.writing.Written.TheVariants as ended
 use Rattle.gates.specs.rest_answers.proofs.Printing.{takes_memory, text_is}
 use Rattle.rest_routes.specs.Commands.{command_of}
+use Rattle.serve_loop.specs.Leave.{AsksNext, GivesLeave, GivesLeaveAt}
 use Rattle.serve_loop.specs.Replying.{Reaches}
 use Rattle.serve_loop.specs.Serving.{Asks, CarriesOut, Exchange, KeepsGate, LinkWorld, Serves, ServesAll}
-use Rattle.serve_loop.specs.Serving.{Meets, Serving, Stops, Turns, end_after, turn_after}
+use Rattle.serve_loop.specs.Serving.{Follows, Meets, Serving, Stops, Turns, Untouched, end_after, turn_after}
 use Rattle.serve_loop.specs.Subscriptions.{subscription_of}
 use Rattle.serve_loop.specs.declared.link.LinkEnd.{LinkEnd}
 use Rattle.serve_loop.specs.declared.link.LinkEnd.TheVariants as end
 use Rattle.serve_loop.specs.declared.link.Turn.{Turn}
 use Rattle.serve_loop.specs.declared.link.Turn.TheVariants as turn
+use Rattle.serve_loop.proofs.Leaving.{gives_still, gives_takes}
+use Rattle.serve_loop.proofs.Taking.{rose_after, takes_twice}
 
 -- ---- one turn
 
--- A turn that takes the next request and has it answered goes on after its reply, or it is the final one, or the link
--- ends at a failed write, or where memory for the reply was refused.
-turn_answers : (boot : ℕ) (w w' : LinkWorld) (request : Request) (r : Reply) (a : PrintedReply) (how : Written)
-    → Asks w w' (got.Request request) → subscription_of request ≡ None
-    → Reaches (command_of request boot) w.gate w'.gate w.clock w'.clock r
-    → HasText a r boot request → WritesAnswer how a request w.sink w'.sink
+-- A turn that takes the next request, after leave where that is awaited, and has it answered goes on after its reply, or
+-- it is the final one, or the link ends at a failed write, or where memory for the reply was refused.
+turn_answers : (boot : ℕ) (w w' : LinkWorld) (mid : Outlet) (request : Request) (r : Reply) (a : PrintedReply)
+    (how : Written) → Asks w w' (got.Request request) → GivesLeave request.expects w.sink mid
+    → subscription_of request ≡ None → Reaches (command_of request boot) w.gate w'.gate w.clock w'.clock r
+    → HasText a r boot request → WritesAnswer how a request mid w'.sink
     → Turns boot (turn_after how request.last) w w'
-turn_answers boot w w' request r a how asks plain reaches text writes = by how writes where
+turn_answers boot w w' mid request r a how asks gives plain reaches text writes = by how writes where
   e : Exchange
   e = record { request = request; history = reaches.history; reply = r }
 
@@ -47,37 +52,110 @@ turn_answers boot w w' request r a how asks plain reaches text writes = by how w
   is : ¬ IsUnprinted a → text_for a request ≡ printed r boot request
   is has = text_is a r boot request text has
 
-  whole : (last : Bool) → request.last ≡ last → ¬ IsUnprinted a → Takes w.sink w'.sink (text_for a request)
-      → Turns boot (turn_after ended.Whole last) w w'
-  whole true last has takes = (e, record { carries = carried; replied = subst (Takes w.sink w'.sink) (is has) takes }, last)
-  whole false last has takes = (e, record { carries = carried; replied = subst (Takes w.sink w'.sink) (is has) takes }, last)
+  served : ¬ IsUnprinted a → Takes mid w'.sink (text_for a request) → Serves boot w w' e
+  served has takes = record {
+    carries = carried;
+    replied = takes_twice (gives_takes request.expects w.sink mid gives) (subst (Takes mid w'.sink) (is has) takes);
+  }
 
-  by : (how : Written) → WritesAnswer how a request w.sink w'.sink → Turns boot (turn_after how request.last) w w'
+  whole : (last : Bool) → request.last ≡ last → ¬ IsUnprinted a → Takes mid w'.sink (text_for a request)
+      → Turns boot (turn_after ended.Whole last) w w'
+  whole true last has takes = (e, served has takes, last)
+  whole false last has takes = (e, served has takes, last)
+
+  by : (how : Written) → WritesAnswer how a request mid w'.sink → Turns boot (turn_after how request.last) w w'
   by ended.Whole writes = whole request.last refl writes.0 writes.1
-  by ended.WriteFault writes = inl (e, carried, subst (BreaksOff w.sink w'.sink) (is writes.0) writes.1)
-  by ended.NoMemory writes =
-      inr (inr (inr (inl (e, carried, takes_memory a r boot request text writes.0, writes.1))))
+  by ended.WriteFault writes = inl (
+    e,
+    carried,
+    record { between = mid; gives = gives; breaks = subst (BreaksOff mid w'.sink) (is writes.0) writes.1 },
+  )
+  by ended.NoMemory writes = inr (inr (inr (inl (
+    e,
+    carried,
+    takes_memory a r boot request text writes.0,
+    gives_still request.expects w.sink mid w'.sink writes.1 gives,
+  ))))
 
 -- a turn at a request: it is answered, or it stops the link
-pub turn_meets : (boot : ℕ) (w w' : LinkWorld) (request : Request) (next : Turn) → Asks w w' (got.Request request)
-    → Meets boot request next w.sink w'.sink w.gate w'.gate w.clock w'.clock → Turns boot next w w'
-turn_meets boot w w' request next asks (inl (plain, replies)) =
+turn_meets : (boot : ℕ) (w w' : LinkWorld) (mid : Outlet) (request : Request) (next : Turn)
+    → Asks w w' (got.Request request) → GivesLeave request.expects w.sink mid
+    → Meets boot request next mid w'.sink w.gate w'.gate w.clock w'.clock → Turns boot next w w'
+turn_meets boot w w' mid request next asks gives (inl (plain, replies)) =
     subst (λ t. Turns boot t w w') (sym replies.next_is)
-    (turn_answers boot w w' request replies.reply replies.answered replies.how asks plain replies.reaches replies.text
-    replies.writes)
-turn_meets boot w w' request next asks (inr (inl (wanted, is, subscribes, same))) =
-    subst (λ t. Turns boot t w w') (sym is)
-    (request, asks, subscribes, record { gate = same.gate_is; clock = same.clock_is }, same.sink_is)
-turn_meets boot w w' request next asks (inr (inr (is, same))) =
-    subst (λ t. Turns boot t w w') (sym is)
-    (inr (inr (inr (inr (request, asks, record { gate = same.gate_is; clock = same.clock_is }, same.sink_is)))))
+    (turn_answers boot w w' mid request replies.reply replies.answered replies.how asks gives plain replies.reaches
+    replies.text replies.writes)
+turn_meets boot w w' mid request next asks gives (inr (inl (wanted, is, subscribes, same))) =
+    subst (λ t. Turns boot t w w') (sym is) (
+      request,
+      asks,
+      subscribes,
+      record { gate = same.gate_is; clock = same.clock_is },
+      gives_still request.expects w.sink mid w'.sink same.sink_is gives,
+    )
+turn_meets boot w w' mid request next asks gives (inr (inr (is, same))) =
+    subst (λ t. Turns boot t w w') (sym is) (inr (inr (inr (inr (
+      request,
+      asks,
+      record { gate = same.gate_is; clock = same.clock_is },
+      gives_still request.expects w.sink mid w'.sink same.sink_is gives,
+    )))))
 
 -- a turn that refuses a malformed place
-pub turn_refuses : (boot : ℕ) (w w' : LinkWorld) (fault : HeadFault) (how : Written) → Asks w w' (got.Malformed fault)
+turn_refuses : (boot : ℕ) (w w' : LinkWorld) (fault : HeadFault) (how : Written) → Asks w w' (got.Malformed fault)
     → KeepsGate w w' → RefusesPlace fault how w.sink w'.sink → Turns boot (turn.Stop (end_after how fault)) w w'
 turn_refuses boot w w' fault ended.Whole asks keeps refuses = (asks, keeps, refuses)
-turn_refuses boot w w' fault ended.WriteFault asks keeps refuses = inr (fault, asks, keeps, refuses)
+turn_refuses boot w w' fault ended.WriteFault asks keeps refuses = inr (inl (fault, asks, keeps, refuses))
 turn_refuses boot w w' fault ended.NoMemory asks keeps refuses = inr (inr (inl (fault, asks, keeps, refuses)))
+
+-- nothing was done after the message was asked for
+keeps_gate : (w w' : LinkWorld) (mid : Outlet) → Untouched mid w'.sink w.gate w'.gate w.clock w'.clock → KeepsGate w w'
+keeps_gate w w' mid same = record { gate = same.gate_is; clock = same.clock_is }
+
+-- no leave was awaited, and so the sink is as it was
+no_leave : (awaited : Bool) (a b : Outlet) → awaited ≡ false → GivesLeave awaited a b → b ≡ a
+no_leave true a b is gives = cc
+no_leave false a b is gives = gives
+
+-- leave by the message that is held
+given_at : (w w' : LinkWorld) (mid : Outlet) (awaited : Bool) → TellsLeave w'.held awaited
+    → GivesLeave awaited w.sink mid → w'.sink ≡ mid → GivesLeaveAt w'.held w.sink w'.sink
+given_at w w' mid awaited tells gives same = record {
+  awaited = awaited;
+  tells = tells;
+  gives = gives_still awaited w.sink mid w'.sink same gives;
+}
+
+-- a turn at what was answered of the next message
+pub turn_follows : (boot : ℕ) (w w' : LinkWorld) (mid : Outlet) (answer : Got) (next : Turn)
+    → AsksNext w.held w.source w.sink answer w'.held w'.source mid
+    → Follows boot answer next mid w'.sink w.gate w'.gate w.clock w'.clock → Turns boot next w w'
+turn_follows boot w w' mid (got.Request request) next asks follows =
+    turn_meets boot w w' mid request next asks.asked
+    (subst (λ awaited. GivesLeave awaited w.sink mid) (sym asks.due) asks.gives) follows
+turn_follows boot w w' mid got.End next asks follows =
+    subst (λ t. Turns boot t w w') (sym follows.0) (
+      asks.asked,
+      keeps_gate w w' mid follows.1,
+      follows.1.sink_is ∙ no_leave asks.awaited w.sink mid asks.due asks.gives,
+    )
+turn_follows boot w w' mid (got.Cut count) next asks follows =
+    subst (λ t. Turns boot t w w') (sym follows.0)
+    (count, asks.asked, keeps_gate w w' mid follows.1, given_at w w' mid asks.awaited asks.due asks.gives follows.1.sink_is)
+turn_follows boot w w' mid (got.Malformed fault) next asks follows =
+    subst (λ t. Turns boot t w w') (sym follows.1)
+    (turn_refuses boot w w' fault follows.0 asks.asked (record { gate = follows.3; clock = follows.4 })
+    (subst (λ s. RefusesPlace fault follows.0 s w'.sink) (no_leave asks.awaited w.sink mid asks.due asks.gives)
+    follows.2))
+turn_follows boot w w' mid got.ReadFault next asks follows =
+    subst (λ t. Turns boot t w w') (sym follows.0)
+    (asks.asked, keeps_gate w w' mid follows.1, given_at w w' mid asks.awaited asks.due asks.gives follows.1.sink_is)
+turn_follows boot w w' mid got.NoMemory next asks follows =
+    subst (λ t. Turns boot t w w') (sym follows.0) (inr (inl (
+      asks.asked,
+      keeps_gate w w' mid follows.1,
+      given_at w w' mid asks.awaited asks.due asks.gives follows.1.sink_is,
+    )))
 
 -- ---- a link
 
@@ -142,7 +220,8 @@ stop_goes boot end.Cut w w' stops = goes_along w w' stops.2.gate
 stop_goes boot (end.Malformed fault) w w' stops = goes_along w w' stops.1.gate
 stop_goes boot end.ReadFault w w' stops = goes_along w w' stops.1.gate
 stop_goes boot end.WriteFault w w' (inl stops) = (stops.0.history, stops.1.gate)
-stop_goes boot end.WriteFault w w' (inr stops) = goes_along w w' stops.2.gate
+stop_goes boot end.WriteFault w w' (inr (inl stops)) = goes_along w w' stops.2.gate
+stop_goes boot end.WriteFault w w' (inr (inr stops)) = goes_along w w' stops.1.gate
 stop_goes boot end.NoMemory w w' (inl same) = goes_along w w' (ap (λ v. v.gate) same)
 stop_goes boot end.NoMemory w w' (inr (inl stops)) = goes_along w w' stops.1.gate
 stop_goes boot end.NoMemory w w' (inr (inr (inl stops))) = goes_along w w' stops.2.gate
@@ -170,7 +249,8 @@ few_at boot end.Cut w w' stops few = stops.1.few
 few_at boot (end.Malformed fault) w w' stops few = stops.0.few
 few_at boot end.ReadFault w w' stops few = stops.0.few
 few_at boot end.WriteFault w w' (inl stops) few = stops.1.asked.few
-few_at boot end.WriteFault w w' (inr stops) few = stops.1.few
+few_at boot end.WriteFault w w' (inr (inl stops)) few = stops.1.few
+few_at boot end.WriteFault w w' (inr (inr stops)) few = stops.0.few
 few_at boot end.NoMemory w w' (inl same) few = subst (λ v. length v.held ≤ most_held) (sym same) few
 few_at boot end.NoMemory w w' (inr (inl stops)) few = stops.0.few
 few_at boot end.NoMemory w w' (inr (inr (inl stops))) few = stops.1.few
@@ -241,8 +321,11 @@ link_write_fault boot w w' ends s is = by (subst (Serving boot w w') is s) where
   rose_from v later rose = omega (arith, rose, later)
 
   stops_rose : (v : LinkWorld) → Stops boot end.WriteFault v w' → Rose v.sink.failures w'.sink.failures
-  stops_rose v (inl stops) = stops.2.rose
-  stops_rose v (inr stops) = stops.3.rose
+  stops_rose v (inl stops) =
+      rose_after v.sink.failures stops.2.between.failures w'.sink.failures
+      (gives_takes stops.0.request.expects v.sink stops.2.between stops.2.gives).later stops.2.breaks.rose
+  stops_rose v (inr (inl stops)) = stops.3.rose
+  stops_rose v (inr (inr stops)) = stops.0.breaks.rose
 
   by : Serving boot w w' end.WriteFault → Rose w.sink.failures w'.sink.failures
   by s = rose_from s.reached (sinks_later boot w s.reached s.exchanges s.serves)

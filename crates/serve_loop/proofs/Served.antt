@@ -1,9 +1,10 @@
 -- A link over a text that is known whole.
-use Rattle.std.proofs.Common.{◌≡◌, ◌⊎◌, ◌++◌, ℕ, List, [], ◌∷◌, true, false, Option, Some, None}
+use Rattle.std.proofs.Common.{◌≡◌, ◌⊎◌, ◌++◌, ℕ, List, [], ◌∷◌, Bool, true, false, Option, Some, None}
 use Rattle.std.proofs.Common.{IfSome, if◌then◌else◌, refl, ap, sym, ◌∙◌, subst, inl, inr, append_assoc}
 use Rattle.std.proofs.lemmas.List.{append-nil}
 use Rattle.std.specs.Io.KnownBytes.{Appends, prepend_known}
-use Rattle.http_heads.specs.Messages.{Begins, Splits, Ending, ended, cut, malformed, EndsAs}
+use Rattle.http_heads.specs.Messages.{Begins, Splits, Ending, TellsLeave, ended, cut, malformed, EndsAs}
+use Rattle.http_heads.proofs.LeaveLemmas.{TellsLeave-message}
 use Rattle.http_heads.specs.declared.request.Request.{Request}
 use Rattle.http_front.specs.Reading.{ReadsNext}
 use Rattle.http_front.specs.declared.read.Got.TheVariants as got
@@ -15,13 +16,16 @@ use Rattle.gates.specs.rest_answers.specs.Texts.{printed}
 use Rattle.gates.specs.rest_answers.proofs.Linking.{appends_nothing, appends_twice}
 use Rattle.gates.specs.rest_answers.proofs.Splitting.{GoesOn, none_more, splits_after}
 use Rattle.serve_loop.specs.Serving.{Exchange, LinkWorld, Serves, ServesAll, Serving, Stops, Turns}
-use Rattle.serve_loop.specs.Texts.{HandlesAll, IsFault, ServesText, ReplyWorld, answered, answered_by, end_at, end_by}
+use Rattle.serve_loop.specs.Leave.{GivesLeave, leave_if, leave_of}
+use Rattle.serve_loop.specs.Texts.{HandlesAll, IsFault, LeaveAt, ServesText, ReplyWorld, answered, answered_by, end_at}
+use Rattle.serve_loop.specs.Texts.{end_by}
 use Rattle.serve_loop.specs.Texts.{end_due, printed_replies}
 use Rattle.serve_loop.specs.Texts.{requests_of, reply_world}
 use Rattle.serve_loop.specs.Texts.{text_at, history_of}
 use Rattle.serve_loop.specs.declared.link.LinkEnd.{LinkEnd}
 use Rattle.serve_loop.specs.declared.link.LinkEnd.TheVariants as end
 use Rattle.serve_loop.specs.declared.link.Turn.TheVariants as turn
+use Rattle.serve_loop.proofs.Leaving.{gives_takes}
 
 -- the bytes to come: those held, and then those that the source has left
 abbrev pub input : LinkWorld → Option (List ℕ)
@@ -72,8 +76,9 @@ first_together : (boot : ℕ) (w next w' : LinkWorld) (e : Exchange) (more : Lis
     → Together boot next more w' → Together boot w (e ∷ more) w'
 first_together boot w next w' e more serves follows = record {
   read = reads_first next w' e more (input w) serves.carries.asked.next follows.read;
-  written = appends_twice w.sink.held next.sink.held w'.sink.held (printed e.reply boot e.request)
-      (printed_replies boot more) serves.replied.written follows.written;
+  written = appends_twice w.sink.held next.sink.held w'.sink.held
+      (leave_of e.request ++ printed e.reply boot e.request) (printed_replies boot more) serves.replied.written
+      follows.written;
   gate = between-append serves.carries.gate follows.gate;
   handles = (next.clock, serves.carries.handles, follows.handles);
 }
@@ -149,6 +154,7 @@ requests-append (e ∷ xs) ys = ap (λ ms. e.request ∷ ms) (requests-append xs
 record Behind (text : List ℕ) (xs : List Exchange) (w : LinkWorld) (messages : List Request) (ending : Ending) : Type 0 where
   rest : List ℕ
   input_is : input w ≡ Some rest
+  begins : Begins text (requests_of xs) rest
   goes_on : GoesOn rest (requests_of xs) messages ending
 
 reached : (boot : ℕ) (w v : LinkWorld) (xs : List Exchange) (text : List ℕ) (messages : List Request) (ending : Ending)
@@ -160,39 +166,44 @@ reached boot w v xs text messages ending all is splits =
     record {
       rest = taken.0;
       input_is = taken.2;
+      begins = taken.1;
       goes_on = splits_after text taken.0 (requests_of xs) messages ending taken.1 splits;
     }
 
 -- a link that ends with its input
 text_at_end : (boot : ℕ) (w v w' : LinkWorld) (xs : List Exchange) (text : List ℕ) (messages : List Request)
-    (ending other : Ending) → Together boot w xs v → AreGoing (requests_of xs) → input w ≡ Some text
+    (ending other : Ending) (awaited : Bool) → Together boot w xs v → AreGoing (requests_of xs) → input w ≡ Some text
     → Splits text messages ending → w'.gate ≡ v.gate → w'.clock ≡ v.clock
-    → ((rest : List ℕ) → input v ≡ Some rest → EndsAs rest other)
-    → Appends v.sink.held w'.sink.held (text_at (end_at other))
-    → ServesText boot messages ending (end_at other) (reply_world_of w) (reply_world_of w')
-text_at_end boot w v w' xs text messages ending other all going is splits gate clock stands written =
+    → ((rest : List ℕ) → input v ≡ Some rest → EndsAs rest other × LeaveAt (end_at other) rest awaited)
+    → Appends v.sink.held w'.sink.held (leave_if awaited ++ text_at (end_at other))
+    → ServesText boot text messages ending (end_at other) (reply_world_of w) (reply_world_of w')
+text_at_end boot w v w' xs text messages ending other awaited all going is splits gate clock stands written =
     let far : Behind text xs v messages ending = reached boot w v xs text messages ending all is splits in
     let none : (far.goes_on.more ≡ []) × (ending ≡ other) = none_more far.rest far.goes_on.more ending other
-    far.goes_on.rest_splits (stands far.rest far.input_is) in
+    far.goes_on.rest_splits (stands far.rest far.input_is).0 in
     let are : messages ≡ requests_of xs =
     far.goes_on.messages_are ∙ ap (λ ms. requests_of xs ++ ms) none.0 ∙ append-nil (requests_of xs) in
     record {
       exchanges = xs;
       requests_are = sym (ap answered (are ∙ sym (append-nil (requests_of xs)))
           ∙ answered_going (requests_of xs) [] going ∙ append-nil (requests_of xs));
+      left = far.rest;
+      begins = far.begins;
       gate = subst (λ g. Between (history_of xs) w.gate g) (sym gate) all.gate;
       handles = subst (λ told. HandlesAll boot w.clock xs told) (sym clock) all.handles;
       end_is = ap end_at (sym none.1)
           ∙ sym (ap (λ ms. end_due ms ending) (are ∙ sym (append-nil (requests_of xs)))
           ∙ due_going (requests_of xs) [] ending going);
-      written = appends_twice w.sink.held v.sink.held w'.sink.held (printed_replies boot xs) (text_at (end_at other))
-          all.written written;
+      awaited = awaited;
+      leave_is = (stands far.rest far.input_is).1;
+      written = appends_twice w.sink.held v.sink.held w'.sink.held (printed_replies boot xs)
+          (leave_if awaited ++ text_at (end_at other)) all.written written;
     }
 
 -- a link that ends after a final request
 text_at_final : (boot : ℕ) (w v w' : LinkWorld) (xs : List Exchange) (text : List ℕ) (messages : List Request)
     (ending : Ending) → ServesAll boot w xs v → Turns boot turn.Final v w' → input w ≡ Some text
-    → Splits text messages ending → ServesText boot messages ending end.Ended (reply_world_of w) (reply_world_of w')
+    → Splits text messages ending → ServesText boot text messages ending end.Ended (reply_world_of w) (reply_world_of w')
 text_at_final boot w v w' xs text messages ending serves final is splits =
     let all : Together boot w (xs ++ final.0 ∷ []) w' = all_together boot w v w' xs (final.0 ∷ []) serves
     (first_together boot v w' w' final.0 [] final.1 (none_together boot w')) in
@@ -208,10 +219,14 @@ text_at_final boot w v w' xs text messages ending serves final is splits =
       requests_are = requests-append xs (final.0 ∷ [])
           ∙ sym (ap answered are
           ∙ answered_final (requests_of xs) final.0.request far.goes_on.more going final.1.carries.plain final.2);
+      left = far.rest;
+      begins = far.begins;
       gate = all.gate;
       handles = all.handles;
       end_is = sym (ap (λ ms. end_due ms ending) are
           ∙ due_final (requests_of xs) final.0.request far.goes_on.more ending going final.1.carries.plain final.2);
+      awaited = false;
+      leave_is = refl;
       written = subst (Appends w.sink.held w'.sink.held)
           (sym (append-nil (printed_replies boot (xs ++ final.0 ∷ [])))) all.written;
     }
@@ -225,11 +240,17 @@ at_known P known holds rest is = subst (λ k. IfSome k P) is holds
 same_sink : (v w' : LinkWorld) → w'.sink ≡ v.sink → Appends v.sink.held w'.sink.held []
 same_sink v w' same = subst (λ s. Appends v.sink.held s.held []) (sym same) (appends_nothing v.sink.held)
 
+-- a link that gave leave where it was awaited, and nothing more
+leave_alone : (v w' : LinkWorld) (awaited : Bool) → GivesLeave awaited v.sink w'.sink
+    → Appends v.sink.held w'.sink.held (leave_if awaited ++ [])
+leave_alone v w' awaited gives = subst (Appends v.sink.held w'.sink.held) (sym (append-nil (leave_if awaited)))
+    (gives_takes awaited v.sink w'.sink gives).written
+
 -- a link that ends at a request that subscribes to events
 text_at_events : (boot : ℕ) (w v w' : LinkWorld) (xs : List Exchange) (text : List ℕ) (messages : List Request)
     (ending : Ending) (wanted : Subscription) → Together boot w xs v → AreGoing (requests_of xs)
     → Stops boot (end.Events wanted) v w' → input w ≡ Some text → Splits text messages ending
-    → ServesText boot messages ending (end.Events wanted) (reply_world_of w) (reply_world_of w')
+    → ServesText boot text messages ending (end.Events wanted) (reply_world_of w) (reply_world_of w')
 text_at_events boot w v w' xs text messages ending wanted all going stops is splits =
     let far : Behind text xs v messages ending = reached boot w v xs text messages ending all is splits in
     let taken : ReadsNext far.rest (input w') w'.held (got.Request stops.0) =
@@ -244,18 +265,22 @@ text_at_events boot w v w' xs text messages ending wanted all going stops is spl
       exchanges = xs;
       requests_are = sym (ap answered are
           ∙ answered_events (requests_of xs) stops.0 next.more wanted going stops.2);
+      left = far.rest;
+      begins = far.begins;
       gate = subst (λ g. Between (history_of xs) w.gate g) (sym stops.3.gate) all.gate;
       handles = subst (λ told. HandlesAll boot w.clock xs told) (sym stops.3.clock) all.handles;
       end_is = sym (ap (λ ms. end_due ms ending) are
           ∙ due_events (requests_of xs) stops.0 next.more wanted ending going stops.2);
-      written = appends_twice w.sink.held v.sink.held w'.sink.held (printed_replies boot xs) [] all.written
-          (same_sink v w' stops.4);
+      awaited = stops.0.expects;
+      leave_is = TellsLeave-message taken.1;
+      written = appends_twice w.sink.held v.sink.held w'.sink.held (printed_replies boot xs)
+          (leave_if stops.0.expects ++ []) all.written (leave_alone v w' stops.0.expects stops.4);
     }
 
 -- a link did what its input asks, or ended by a fault
 pub link_text : (boot : ℕ) (w w' : LinkWorld) (ends : LinkEnd) (text : List ℕ) (messages : List Request) (ending : Ending)
     → Serving boot w w' ends → input w ≡ Some text → Splits text messages ending
-    → IsFault ends ⊎ ServesText boot messages ending ends (reply_world_of w) (reply_world_of w')
+    → IsFault ends ⊎ ServesText boot text messages ending ends (reply_world_of w) (reply_world_of w')
 link_text boot w w' ends text messages ending s is splits = by ends s.stops where
   all : Together boot w (s.exchanges ++ []) s.reached
   all = all_together boot w s.reached s.reached s.exchanges [] s.serves (none_together boot s.reached)
@@ -267,31 +292,31 @@ link_text boot w w' ends text messages ending s is splits = by ends s.stops wher
   going = served_going boot w s.reached s.exchanges s.serves
 
   by : (ends : LinkEnd) → ((ends ≡ end.Ended) × Turns boot turn.Final s.reached w') ⊎ Stops boot ends s.reached w'
-      → IsFault ends ⊎ ServesText boot messages ending ends (reply_world_of w) (reply_world_of w')
+      → IsFault ends ⊎ ServesText boot text messages ending ends (reply_world_of w) (reply_world_of w')
   by end.Ended (inl (same, final)) =
       inr (text_at_final boot w s.reached w' s.exchanges text messages ending s.serves final is splits)
   by end.Ended (inr stops) = inr (
-      text_at_end boot w s.reached w' s.exchanges text messages ending ended whole going is splits stops.1.gate
+      text_at_end boot w s.reached w' s.exchanges text messages ending ended false whole going is splits stops.1.gate
       stops.1.clock
-      (λ rest known. (at_known (λ bytes. ReadsNext bytes (input w') w'.held got.End) (input s.reached) stops.0.next rest
-      known).0)
+      (λ rest known. ((at_known (λ bytes. ReadsNext bytes (input w') w'.held got.End) (input s.reached) stops.0.next rest
+      known).0, refl))
       (same_sink s.reached w' stops.2)
       )
   by end.Cut (inl (same, final)) = cc
   by end.Cut (inr stops) = inr (
-      text_at_end boot w s.reached w' s.exchanges text messages ending (cut stops.0) whole going is splits
-      stops.2.gate stops.2.clock
+      text_at_end boot w s.reached w' s.exchanges text messages ending (cut stops.0) stops.3.awaited whole going is
+      splits stops.2.gate stops.2.clock
       (λ rest known. let said : ReadsNext rest (input w') w'.held (got.Cut stops.0) =
       at_known (λ bytes. ReadsNext bytes (input w') w'.held (got.Cut stops.0)) (input s.reached) stops.1.next rest known in
-      (said.0, said.3))
-      (same_sink s.reached w' stops.3)
+      ((said.0, said.3), subst (λ bytes. TellsLeave bytes stops.3.awaited) said.2 stops.3.tells))
+      (leave_alone s.reached w' stops.3.awaited stops.3.gives)
       )
   by (end.Malformed fault) (inl (same, final)) = cc
   by (end.Malformed fault) (inr stops) = inr (
-      text_at_end boot w s.reached w' s.exchanges text messages ending (malformed fault) whole going is splits
+      text_at_end boot w s.reached w' s.exchanges text messages ending (malformed fault) false whole going is splits
       stops.1.gate stops.1.clock
-      (λ rest known. (at_known (λ bytes. ReadsNext bytes (input w') w'.held (got.Malformed fault)) (input s.reached)
-      stops.0.next rest known).0)
+      (λ rest known. ((at_known (λ bytes. ReadsNext bytes (input w') w'.held (got.Malformed fault)) (input s.reached)
+      stops.0.next rest known).0, refl))
       stops.2.written
       )
   by (end.Events wanted) (inl (same, final)) = cc
@@ -310,11 +335,11 @@ nothing_held (Some bytes) = refl
 -- the same, where the source tells its bytes
 pub link_texts : (boot : ℕ) (w w' : LinkWorld) (ends : LinkEnd) → w.held ≡ [] → Serving boot w w' ends
     → IfSome w.source.left (λ text. (messages : List Request) (ending : Ending) → Splits text messages ending
-    → IsFault ends ⊎ ServesText boot messages ending ends (reply_world_of w) (reply_world_of w'))
+    → IsFault ends ⊎ ServesText boot text messages ending ends (reply_world_of w) (reply_world_of w'))
 link_texts boot w w' ends none s = by w.source.left refl where
   by : (known : Option (List ℕ)) → w.source.left ≡ known
       → IfSome known (λ text. (messages : List Request) (ending : Ending) → Splits text messages ending
-      → IsFault ends ⊎ ServesText boot messages ending ends (reply_world_of w) (reply_world_of w'))
+      → IsFault ends ⊎ ServesText boot text messages ending ends (reply_world_of w) (reply_world_of w'))
   by None is = tt
   by (Some text) is = λ messages ending splits.
       link_text boot w w' ends text messages ending s

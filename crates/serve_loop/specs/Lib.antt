@@ -13,6 +13,7 @@ pub mod FrameExamples
 pub mod ClientFrames
 pub mod Frames
 pub mod Sources
+pub mod Leave
 pub mod Listening
 pub mod Sending
 pub mod Sessions

@@ -1,6 +1,6 @@
 -- A link: its requests are taken one after the other, each comes to its reply at a gate, and then the link ends for one
 -- reason. The boot word is that of the ids of operations.
-use Rattle.std.specs.Prelude.{◌≡◌, ◌≢◌, ◌≤◌, ◌⊎◌, ℕ, List, [], ◌∷◌, Bool, true, false, length, Some, None}
+use Rattle.std.specs.Prelude.{◌≡◌, ◌≢◌, ◌≤◌, ◌⊎◌, ◌++◌, ℕ, List, [], ◌∷◌, Bool, true, false, length, Some, None}
 use Rattle.http_heads.specs.declared.request.HeadFault.{HeadFault}
 use Rattle.http_heads.specs.declared.request.Request.{Request}
 use Rattle.http_front.specs.Clocks.{Readings}
@@ -13,11 +13,12 @@ use Rattle.gates.specs.Gates.{Between, Seen}
 use Rattle.gates.specs.History.{Item}
 use Rattle.gates.specs.rest_answers.specs.Links.{BreaksOff, Inlet, Outlet, ReadsFrom, Takes}
 use Rattle.gates.specs.rest_answers.specs.Texts.{HasText, malformed_text, printed}
-use Rattle.gates.specs.rest_answers.specs.Writing.{WritesAnswer}
+use Rattle.gates.specs.rest_answers.specs.Writing.{RefusesPlace, WritesAnswer}
 use Rattle.gates.specs.rest_answers.specs.declared.answers.PrintedReply.{PrintedReply}
 use Rattle.gates.specs.rest_answers.specs.declared.writing.Written.{Written}
 use Rattle.gates.specs.rest_answers.specs.declared.writing.Written.TheVariants as ended
 use Rattle.rest_routes.specs.Commands.{command_of}
+use Rattle.serve_loop.specs.Leave.{BreaksLeave, BreaksReply, GivesLeave, GivesLeaveAt, leave_of}
 use Rattle.serve_loop.specs.Replying.{Handles, Reaches}
 use Rattle.serve_loop.specs.Subscriptions.{subscription_of}
 use Rattle.serve_loop.specs.declared.subscriptions.Subscription.{Subscription}
@@ -63,39 +64,44 @@ pub record CarriesOut (boot : ℕ) (world later : LinkWorld) (exchange : Exchang
   pub gate : Between exchange.history world.gate later.gate
   pub handles : Handles (command_of exchange.request boot) world.clock exchange.history exchange.reply later.clock
 
--- The next request was taken and came to its reply, which was written whole.
+-- The next request was taken, after leave where its client waits for it, and came to its reply, which was written whole.
 pub record Serves (boot : ℕ) (world later : LinkWorld) (exchange : Exchange) : Type 0 where
   pub carries : CarriesOut boot world later exchange
-  pub replied : Takes world.sink later.sink (printed exchange.reply boot exchange.request)
+  pub replied : Takes world.sink later.sink
+      (leave_of exchange.request ++ printed exchange.reply boot exchange.request)
 
 -- ---- ends
 
 -- What stands next where a link ends before another request was answered whole, and what was done of it: nothing after
--- the end of the source and at a failed read; its reply at a malformed place; a part of a reply where a write failed;
--- where memory was refused, nothing is written, after a request was carried out, before, or before any was read; and at
--- a request that subscribes to events, nothing was done of it.
+-- the end of the source and at a failed read; its reply at a malformed place; a part of a reply or of leave where a
+-- write failed; where memory was refused, no reply is written, after a request was carried out, before, or before any
+-- was read; and at a request that subscribes to events, nothing was done of it. Leave was given before, where it was
+-- awaited.
 abbrev pub Stops : ℕ → LinkEnd → LinkWorld → LinkWorld → Type 0
 Stops boot end.Ended world later = Asks world later got.End × KeepsGate world later × (later.sink ≡ world.sink)
-Stops boot end.Cut world later =
-    (count : ℕ) × Asks world later (got.Cut count) × KeepsGate world later × (later.sink ≡ world.sink)
+Stops boot end.Cut world later = (count : ℕ) × Asks world later (got.Cut count) × KeepsGate world later
+    × GivesLeaveAt later.held world.sink later.sink
 Stops boot (end.Malformed fault) world later = Asks world later (got.Malformed fault) × KeepsGate world later
     × Takes world.sink later.sink (malformed_text fault)
 Stops boot end.ReadFault world later =
-    Asks world later got.ReadFault × KeepsGate world later × (later.sink ≡ world.sink)
+    Asks world later got.ReadFault × KeepsGate world later × GivesLeaveAt later.held world.sink later.sink
 Stops boot end.WriteFault world later =
     ((exchange : Exchange) × CarriesOut boot world later exchange
-    × BreaksOff world.sink later.sink (printed exchange.reply boot exchange.request))
+    × BreaksReply exchange.request (printed exchange.reply boot exchange.request) world.sink later.sink)
     ⊎ ((fault : HeadFault) × Asks world later (got.Malformed fault) × KeepsGate world later
     × BreaksOff world.sink later.sink (malformed_text fault))
+    ⊎ (BreaksLeave world.held world.source world.sink later.held later.source later.sink × KeepsGate world later)
 Stops boot end.NoMemory world later =
     (later ≡ world)
-    ⊎ (Asks world later got.NoMemory × KeepsGate world later × (later.sink ≡ world.sink))
+    ⊎ (Asks world later got.NoMemory × KeepsGate world later × GivesLeaveAt later.held world.sink later.sink)
     ⊎ ((fault : HeadFault) × Asks world later (got.Malformed fault) × KeepsGate world later × (later.sink ≡ world.sink))
     ⊎ ((exchange : Exchange) × CarriesOut boot world later exchange
-    × (exchange.reply ≢ reply.NoMemory) × (later.sink ≡ world.sink))
-    ⊎ ((request : Request) × Asks world later (got.Request request) × KeepsGate world later × (later.sink ≡ world.sink))
+    × (exchange.reply ≢ reply.NoMemory) × GivesLeave exchange.request.expects world.sink later.sink)
+    ⊎ ((request : Request) × Asks world later (got.Request request) × KeepsGate world later
+    × GivesLeave request.expects world.sink later.sink)
 Stops boot (end.Events wanted) world later = (request : Request) × Asks world later (got.Request request)
-    × (subscription_of request ≡ Some wanted) × KeepsGate world later × (later.sink ≡ world.sink)
+    × (subscription_of request ≡ Some wanted) × KeepsGate world later
+    × GivesLeave request.expects world.sink later.sink
 
 -- one turn of a link: the next request was answered, or the link ends
 abbrev pub Turns : ℕ → Turn → LinkWorld → LinkWorld → Type 0
@@ -171,3 +177,19 @@ Meets boot request next sink sink' gate gate' clock clock' =
     ⊎ ((wanted : Subscription) × (next ≡ turn.Stop (end.Events wanted)) × (subscription_of request ≡ Some wanted)
     × Untouched sink sink' gate gate' clock clock')
     ⊎ ((next ≡ turn.Stop end.NoMemory) × Untouched sink sink' gate gate' clock clock')
+
+-- What follows on an answer of `read_request`: its request is answered, or stops the link; a malformed place is
+-- answered by its rule; and else the link stops, and nothing is done.
+abbrev pub Follows : ℕ → Got → Turn → Outlet → Outlet → Seen → Seen → Readings → Readings → Type 0
+Follows boot (got.Request request) next sink sink' gate gate' clock clock' =
+    Meets boot request next sink sink' gate gate' clock clock'
+Follows boot got.End next sink sink' gate gate' clock clock' =
+    (next ≡ turn.Stop end.Ended) × Untouched sink sink' gate gate' clock clock'
+Follows boot (got.Cut count) next sink sink' gate gate' clock clock' =
+    (next ≡ turn.Stop end.Cut) × Untouched sink sink' gate gate' clock clock'
+Follows boot (got.Malformed fault) next sink sink' gate gate' clock clock' = (how : Written)
+    × (next ≡ turn.Stop (end_after how fault)) × RefusesPlace fault how sink sink' × (gate' ≡ gate) × (clock' ≡ clock)
+Follows boot got.ReadFault next sink sink' gate gate' clock clock' =
+    (next ≡ turn.Stop end.ReadFault) × Untouched sink sink' gate gate' clock clock'
+Follows boot got.NoMemory next sink sink' gate gate' clock clock' =
+    (next ≡ turn.Stop end.NoMemory) × Untouched sink sink' gate gate' clock clock'

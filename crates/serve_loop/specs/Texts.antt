@@ -1,9 +1,9 @@
 -- What a link comes to, told of its whole input: the requests that are answered, how it ends, and the bytes that are
 -- written.
-use Rattle.std.specs.Prelude.{◌≡◌, ◌++◌, ℕ, List, [], ◌∷◌, map, Option, Some, None, if◌then◌else◌}
+use Rattle.std.specs.Prelude.{◌≡◌, ◌++◌, ℕ, Bool, false, List, [], ◌∷◌, map, Option, Some, None, if◌then◌else◌}
 use Rattle.std.specs.List.{flat_map}
 use Rattle.std.specs.Io.KnownBytes.{Appends}
-use Rattle.http_heads.specs.Messages.{Ending, ended, cut, malformed}
+use Rattle.http_heads.specs.Messages.{Begins, Ending, TellsLeave, ended, cut, malformed}
 use Rattle.http_heads.specs.declared.request.Request.{Request}
 use Rattle.http_front.specs.Clocks.{Readings}
 use Rattle.gates.specs.Gates.{Between, Seen}
@@ -11,6 +11,7 @@ use Rattle.gates.specs.History.{Item}
 use Rattle.gates.specs.rest_answers.specs.Links.{Outlet}
 use Rattle.gates.specs.rest_answers.specs.Texts.{malformed_text, printed}
 use Rattle.rest_routes.specs.Commands.{command_of}
+use Rattle.serve_loop.specs.Leave.{leave_if, leave_of}
 use Rattle.serve_loop.specs.Replying.{Handles}
 use Rattle.serve_loop.specs.Subscriptions.{subscription_of}
 use Rattle.serve_loop.specs.declared.subscriptions.Subscription.{Subscription}
@@ -22,9 +23,10 @@ use Rattle.serve_loop.specs.declared.link.LinkEnd.TheVariants as end
 abbrev pub requests_of : List Exchange → List Request
 requests_of exchanges = map (λ exchange. exchange.request) exchanges
 
--- the bytes of the replies, in their order
+-- the bytes of the replies, in their order, each after leave where its request awaits it
 abbrev pub printed_replies : ℕ → List Exchange → List ℕ
-printed_replies boot exchanges = flat_map (λ exchange. printed exchange.reply boot exchange.request) exchanges
+printed_replies boot exchanges =
+    flat_map (λ exchange. leave_of exchange.request ++ printed exchange.reply boot exchange.request) exchanges
 
 -- what was done at the gate, in its order
 abbrev pub history_of : List Exchange → List Item
@@ -62,7 +64,14 @@ abbrev pub end_due : List Request → Ending → LinkEnd
 end_due [] ending = end_at ending
 end_due (message ∷ more) ending = end_by (subscription_of message) message (end_due more ending)
 
--- the text that is written after the replies
+-- Whether leave is given after the replies: where the message that these bytes begin with awaits it, and is cut off or
+-- subscribes to events.
+abbrev pub LeaveAt : LinkEnd → List ℕ → Bool → Type 0
+LeaveAt end.Cut left awaited = TellsLeave left awaited
+LeaveAt (end.Events wanted) left awaited = TellsLeave left awaited
+LeaveAt other left awaited = awaited ≡ false
+
+-- the reply that is written after the others and after leave
 abbrev pub text_at : LinkEnd → List ℕ
 text_at (end.Malformed fault) = malformed_text fault
 text_at other = []
@@ -86,12 +95,17 @@ reply_world sink gate clock = record { sink = sink; gate = gate; clock = clock }
 -- The link did what its input asks, and nothing else. The requests up to and with the first that is the last on its
 -- connection, or before the first that subscribes to events, are answered, each by the turns and idles that it is due.
 -- These are all that was done at the gate, and the clock was read for nothing else. The end is the one that is due,
--- and the sink took the replies in their order.
-pub record ServesText (boot : ℕ) (messages : List Request) (ending : Ending) (ends : LinkEnd) (world later : ReplyWorld)
-    : Type 0 where
+-- and the sink took the replies in their order, and leave for each body that awaits it.
+pub record ServesText (boot : ℕ) (text : List ℕ) (messages : List Request) (ending : Ending) (ends : LinkEnd)
+    (world later : ReplyWorld) : Type 0 where
   pub exchanges : List Exchange
   pub requests_are : requests_of exchanges ≡ answered messages
+  pub left : List ℕ
+  pub begins : Begins text (requests_of exchanges) left
   pub gate : Between (history_of exchanges) world.gate later.gate
   pub handles : HandlesAll boot world.clock exchanges later.clock
   pub end_is : ends ≡ end_due messages ending
-  pub written : Appends world.sink.held later.sink.held (printed_replies boot exchanges ++ text_at ends)
+  pub awaited : Bool
+  pub leave_is : LeaveAt ends left awaited
+  pub written : Appends world.sink.held later.sink.held
+      (printed_replies boot exchanges ++ (leave_if awaited ++ text_at ends))

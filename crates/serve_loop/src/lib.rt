@@ -9,6 +9,7 @@ mod filters;
 mod frame_laws;
 mod frames;
 mod hearing;
+mod leave;
 mod link;
 mod listening;
 mod log;

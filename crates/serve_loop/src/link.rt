@@ -7,16 +7,17 @@ ghost use Rattle.gates.specs.rest_answers.specs.Links.{inlet, outlet};
 ghost use Rattle.gates.specs.rest_answers.specs.Writing.{RefusesPlace};
 ghost use Rattle.gates.specs.Gates.{Between, seen};
 ghost use Rattle.gates.specs.History.{Item};
-ghost use Rattle.serve_loop.specs.Serving.{Meets, Replies, Serving, ServingFrom, Turns, end_after, link_world};
-ghost use Rattle.serve_loop.specs.Serving.{turn_after};
+ghost use Rattle.serve_loop.specs.Serving.{Follows, Meets, Replies, Serving, ServingFrom, Turns, end_after};
+ghost use Rattle.serve_loop.specs.Serving.{link_world, turn_after};
 ghost use Rattle.serve_loop.specs.Texts.{IsFault, ServesText, reply_world};
 ghost use Rattle.serve_loop.specs.declared.link.LinkEnd.TheVariants as end;
 
+use crate::leave::next_message;
 use crate::log::{Log, code_of, rule_in, tell_malformed, tell_subscribed};
 use crate::reply::reply_to;
 use crate::subscriptions::{Subscription, subscription_of};
 use gates::{Gate, Written, answer_for, write_answer, write_refusal};
-use http_front::{Buffer, Clock, Got, HeadFault, Request, Sink, Source, read_request};
+use http_front::{Buffer, Clock, Got, HeadFault, Request, Sink, SinkFailed, Source};
 use rest_routes::Router;
 use size_values::NoMemory;
 use std::alloc::Global;
@@ -145,7 +146,41 @@ fn refuse_place<K: Sink, O: Log>(
     written
 }
 
-/// One turn of a link: takes the next message and answers it.
+/// What follows on an answer of `read_request`.
+fn follow<T: Wait, G: Gate, K: Sink, C: Clock, O: Log>(
+    rt: &T,
+    alloc: Global,
+    router: &Router,
+    buffer: &mut Buffer,
+    gate: &mut G,
+    sink: &mut K,
+    clock: &mut C,
+    got: Got,
+    boot: u64,
+    log: &mut O,
+) -> Turn
+    ensures follows { Follows boot got result (outlet K.held K.failures sink.old)
+        (outlet K.held K.failures sink.new) (seen G.contents G.turned G.idled gate.old)
+        (seen G.contents G.turned G.idled gate.new) (C.readings clock.old) (C.readings clock.new) }
+    ensures held { buffer.new ≡ buffer.old }
+{
+    match got {
+        Got::Request(request) => {
+            let next = serve_request(rt, alloc, router, gate, sink, clock, &request, boot, log);
+            buffer.reuse(request);
+            next
+        }
+        Got::End => Turn::Stop(LinkEnd::Ended),
+        Got::Cut(_) => Turn::Stop(LinkEnd::Cut),
+        Got::Malformed(fault) => {
+            Turn::Stop(end_after(refuse_place(alloc, sink, log, fault), fault))
+        }
+        Got::ReadFault => Turn::Stop(LinkEnd::ReadFault),
+        Got::NoMemory => Turn::Stop(LinkEnd::NoMemory),
+    }
+}
+
+/// One turn of a link: takes the next message, after leave where its client waits for it, and answers it.
 fn serve_next<T: Wait, G: Gate, S: Source, K: Sink, C: Clock, O: Log>(
     rt: &T,
     alloc: Global,
@@ -166,19 +201,9 @@ fn serve_next<T: Wait, G: Gate, S: Source, K: Sink, C: Clock, O: Log>(
         (outlet K.held K.failures sink.new) (seen G.contents G.turned G.idled gate.new)
         (C.readings clock.new)) }
 {
-    match read_request(alloc, buffer, source) {
-        Got::Request(request) => {
-            let next = serve_request(rt, alloc, router, gate, sink, clock, &request, boot, log);
-            buffer.reuse(request);
-            next
-        }
-        Got::End => Turn::Stop(LinkEnd::Ended),
-        Got::Cut(_) => Turn::Stop(LinkEnd::Cut),
-        Got::Malformed(fault) => {
-            Turn::Stop(end_after(refuse_place(alloc, sink, log, fault), fault))
-        }
-        Got::ReadFault => Turn::Stop(LinkEnd::ReadFault),
-        Got::NoMemory => Turn::Stop(LinkEnd::NoMemory),
+    match next_message(alloc, buffer, source, sink) {
+        Ok(got) => follow(rt, alloc, router, buffer, gate, sink, clock, got, boot, log),
+        Err(SinkFailed) => Turn::Stop(LinkEnd::WriteFault),
     }
 }
 
@@ -286,7 +311,7 @@ pub fn serve_link<T: Wait, G: Gate, S: Source, K: Sink, C: Clock, O: Log>(
     // Over a source that tells its bytes: a fault, or what these bytes ask.
     ensures text { IfSome (S.left source.old) (λ text. (messages : List RequestValue) (ending : Ending)
         → Splits text messages ending → IsFault result
-        ⊎ ServesText boot messages ending result
+        ⊎ ServesText boot text messages ending result
         (reply_world (outlet K.held K.failures sink.old) (seen G.contents G.turned G.idled gate.old)
         (C.readings clock.old))
         (reply_world (outlet K.held K.failures sink.new) (seen G.contents G.turned G.idled gate.new)

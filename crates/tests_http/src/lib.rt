@@ -14,6 +14,8 @@ mod faults;
 #[cfg(test)]
 mod incusd_words;
 #[cfg(test)]
+mod leave;
+#[cfg(test)]
 mod readings;
 #[cfg(test)]
 mod replies;
