@@ -298,8 +298,11 @@ link_text boot w w' ends text messages ending s is splits = by ends s.stops wher
   by end.Ended (inr stops) = inr (
       text_at_end boot w s.reached w' s.exchanges text messages ending ended false whole going is splits stops.1.gate
       stops.1.clock
-      (λ rest known. ((at_known (λ bytes. ReadsNext bytes (input w') w'.held got.End) (input s.reached) stops.0.next rest
-      known).0, refl))
+      (λ rest known. (
+        (at_known (λ bytes. ReadsNext bytes (input w') w'.held got.End) (input s.reached) stops.0.next rest
+            known).0,
+        refl,
+      ))
       (same_sink s.reached w' stops.2)
       )
   by end.Cut (inl (same, final)) = cc
@@ -315,8 +318,11 @@ link_text boot w w' ends text messages ending s is splits = by ends s.stops wher
   by (end.Malformed fault) (inr stops) = inr (
       text_at_end boot w s.reached w' s.exchanges text messages ending (malformed fault) false whole going is splits
       stops.1.gate stops.1.clock
-      (λ rest known. ((at_known (λ bytes. ReadsNext bytes (input w') w'.held (got.Malformed fault)) (input s.reached)
-      stops.0.next rest known).0, refl))
+      (λ rest known. (
+        (at_known (λ bytes. ReadsNext bytes (input w') w'.held (got.Malformed fault)) (input s.reached)
+            stops.0.next rest known).0,
+        refl,
+      ))
       stops.2.written
       )
   by (end.Events wanted) (inl (same, final)) = cc

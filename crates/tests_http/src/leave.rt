@@ -122,5 +122,12 @@ fn stops(alloc: Global, text: &[u8], cut: u64) -> bool {
 #[test]
 fn an_end_within_a_head_is_told(rt: HostRuntime) {
     assert!(rt; stops(rt.alloc(), b"\r\n\r\n", 0), "a blank end");
-    assert!(rt; stops(rt.alloc(), b"POST / HTTP/1.1\nExpect: 100-continue\nContent-Length: 2\n", 55), "a cut head");
+    assert!(rt;
+        stops(
+            rt.alloc(),
+            b"POST / HTTP/1.1\nExpect: 100-continue\nContent-Length: 2\n",
+            55
+        ),
+        "a cut head"
+    );
 }

@@ -14,15 +14,15 @@ pub returns-then-not-look : goal.returns-then-not-look
 returns-then-not-look g c = λ command. round_ends command (c.loop.invariant.1 command)
     (c.look.ensures command c.args.deadline c.loop.idles _) c.if-not-look.true
 
-pub returns-in-None : goal.returns-in-None
-returns-in-None g c = λ command. round_idles command (c.loop.invariant.1 command)
+pub returns-in-None-idle : goal.returns-in-None-idle
+returns-in-None-idle g c = λ command. round_idles command (c.loop.invariant.1 command)
     (c.look.ensures command c.args.deadline c.loop.idles _) c.if-not-look.false
-    (c.in-None.ensures.walks command c.args.number)
+    (c.in-None-idle.ensures.walks command c.args.number)
 
 pub loop-preserved : goal.loop-preserved
 loop-preserved g c = (
-  c.in-Some.ensures.few,
+  c.in-Some-idle.ensures.few,
   λ command. round_idles command (c.loop.invariant.1 command)
       (c.look.ensures command c.args.deadline c.loop.idles _) c.if-not-look.false
-      (c.in-Some.ensures.walks command c.args.number),
+      (c.in-Some-idle.ensures.walks command c.args.number),
 )
