@@ -31,13 +31,9 @@ pub struct NoLog;
 impl Log for NoLog {
     fn came(&mut self) {}
 
-    fn answered(&mut self, request: Option<&Request>, code: Option<u16>, rule: Option<Rule>) {
-        let _told = (request, code, rule);
-    }
+    fn answered(&mut self, _request: Option<&Request>, _code: Option<u16>, _rule: Option<Rule>) {}
 
-    fn ended(&mut self, number: u64, report: Report) {
-        let _told = (number, report);
-    }
+    fn ended(&mut self, _number: u64, _report: Report) {}
 }
 
 /// The code that accepts a WebSocket handshake.
