@@ -8,5 +8,5 @@ pub mod Drilled
 pub mod Books
 pub mod Beginning
 pub mod Others
-mod Pacing
+mod StepsMade
 pub mod Tops

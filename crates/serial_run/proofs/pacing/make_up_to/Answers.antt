@@ -1,5 +1,5 @@
 use Rattle.serial_steps.proofs.Making.{IsBusy, none_so_far, not-idle, one_more}
-use Rattle.serial_run.proofs.Pacing.{makes-all, makes-fewer}
+use Rattle.serial_run.proofs.StepsMade.{makes-all, makes-fewer}
 use Rattle.serial_run.proofs.pacing.make_up_to.Goals as goal
 
 pub loop-made-init : goal.loop-made-init
