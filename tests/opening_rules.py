@@ -363,7 +363,7 @@ class Tries:
     def __init__(self, program, folder):
         self.program, self.folder, self.faults, self.tried = program, Path(folder), [], 0
         self.first, self.left = self.folder / "first.db", self.folder / "left.db"
-        ran = row_entries.check(program, self.first)
+        ran = subprocess.run([program, "run", "--db", str(self.first)], stdin=subprocess.DEVNULL, capture_output=True, timeout=60)
         if ran.returncode != 0:
             sys.exit(f"a new file is not made: status {ran.returncode}, {ran.stderr.decode()}")
         self.entries = leave_rows(program, self.left)

@@ -72,7 +72,7 @@ def snapshot(key, config={}, named={}, profiles=(), created=0, expires=0):
 
 
 def check(program, file):
-    """Opens a file, which is made where it is missing."""
+    """Opens a file."""
     return subprocess.run([program, "check", "--db", str(file)], capture_output=True, check=False, timeout=600)
 
 

@@ -161,26 +161,32 @@ fn tables_of(database: &mut Connection<FileStore<File>>) -> Result<i64, Error> {
         .get(0)
 }
 
+/// What a keeper does at a file of the first version that nothing changes.
+const OPENED: &[Step] = &[Step::Finds(&[(1, "a", Some(b"x"))]), Step::Commits(&[&[]])];
+
+/// What a keeper does at such a file that it changes.
+const CHANGED: &[Step] = &[
+    Step::Finds(&[(1, "a", Some(b"x"))]),
+    Step::Commits(LATER),
+    Step::Finds(&[(1, "b", Some(b"y"))]),
+];
+
 /// Whether a file of the first version opens, stays as it is while nothing changes, and gets its version then.
 fn first_version_opens(rt: &HostRuntime) -> bool {
-    let opened = [Step::Finds(&[(1, "a", Some(b"x"))]), Step::Commits(&[&[]])];
-    let changed = [
-        Step::Finds(&[(1, "a", Some(b"x"))]),
-        Step::Commits(LATER),
-        Step::Finds(&[(1, "b", Some(b"y"))]),
-    ];
     is_made(rt, FIRST)
-        && all_go_at(rt, FILE, &opened)
+        && all_go_at(rt, FILE, OPENED)
         && has_tables(rt, 1)
-        && all_go_at(rt, FILE, &changed)
+        && all_go_at(rt, FILE, CHANGED)
         && has_tables(rt, 2)
         && finds_again(rt, &[(1, "b", Some(b"y"))])
 }
 
+/// What a keeper does at a new file.
+const FILLED: &[Step] = &[Step::Finds(&[]), Step::Commits(LATER)];
+
 /// Whether a file has its rows without its log, once its keeper is closed.
 fn is_whole_alone(rt: &HostRuntime) -> bool {
-    let steps = [Step::Finds(&[]), Step::Commits(LATER)];
-    all_go_at(rt, FILE, &steps)
+    all_go_at(rt, FILE, FILLED)
         && fs::remove_file(rt, LOG).is_ok()
         && finds_again(rt, &[(1, "b", Some(b"y"))])
 }
