@@ -3,13 +3,14 @@ ghost use Rattle.std.specs.Prelude.{◌≡◌, map, string_bytes};
 ghost use Rattle.command_words.specs.ServeWords.{serve_setup_of};
 
 use crate::doors::{Listening, doors_of};
-use crate::request_log::RequestLog;
+use crate::telling::DoorNotes;
 use crate::threads::{Spawning, on_threads};
 use host_model::ModelHost;
-use http_front::{Clock, SystemClock};
+use http_front::SystemClock;
 use record_keeper::Keeper;
+use serve_loop::Log;
 use server_main::{ServerJob, serve_main};
-use serving::{Doors, NetSink, NetSource, Spawner, Stop, status_of};
+use serving::{Doors, NetDoors, Spawner, Stop, status_of};
 use size_values::Seq;
 use std::alloc::Global;
 use std::marker::{Brand, PhantomData};
@@ -20,19 +21,20 @@ use std::thread::Threads;
 use std::time;
 
 /// What a server is begun with, but for its spawner.
-struct Beginning<'a, D, R, L, T> {
-    rt: HostRuntime,
+struct Beginning<'a, D, R, L, T, O> {
     system: T,
+    alloc: Global,
     words: &'a [String],
-    setup: Listening,
     doors: D,
     keeper: R,
+    boot: u64,
+    log: O,
     blank: Blank,
     ledger: PhantomData<L>,
 }
 
 /// The jobs of a server over these doors.
-type Job<D, R, L, T> = ServerJob<
+type Job<D, R, L, T, O> = ServerJob<
     <D as Doors>::Source,
     <D as Doors>::Sink,
     R,
@@ -40,90 +42,95 @@ type Job<D, R, L, T> = ServerJob<
     SystemClock<T>,
     L,
     T,
-    RequestLog,
+    O,
 >;
 
-impl<'a, D, R, L, T> Spawning<Job<D, R, L, T>> for Beginning<'a, D, R, L, T>
+impl<'a, D, R, L, T, O> Spawning<Job<D, R, L, T, O>> for Beginning<'a, D, R, L, T, O>
 where
     D: Doors + Drop,
     R: Keeper + Drop,
     L: Ledger,
     T: Wait + time::Clock + Copy + Drop,
+    O: Log + Copy + Drop,
 {
     type Out = (u8, Option<R>);
 
     ghost is_sound = { λ b. ((D.seen b.doors).given ≡ 0) × (b.blank.name ≡ L.name) × (b.blank.parts ≡ L.parts)
         × (b.blank.parts ≡ (serve_setup_of (map (λ w. string_bytes w) b.words.now)).tickets) };
 
-    fn run<P: Spawner<Job<D, R, L, T>>>(self, spawner: &mut P) -> (u8, Option<R>) {
+    fn run<P: Spawner<Job<D, R, L, T, O>>>(self, spawner: &mut P) -> (u8, Option<R>) {
         let Beginning {
-            rt,
             system,
+            alloc,
             words,
-            setup,
             mut doors,
             keeper,
+            boot,
+            log,
             blank,
             ledger: _,
         } = self;
-        let alloc = rt.alloc();
         let host = ModelHost::new(alloc, Seq::new(alloc));
-        let mut clock = SystemClock::new(system);
-        let boot = clock.now();
-        let log = RequestLog::new(rt, setup.logs, setup.port, boot);
-        serve_main::<R, ModelHost, SystemClock<T>, L, T, D, P, RequestLog>(
+        let clock = SystemClock::new(system);
+        serve_main::<R, ModelHost, SystemClock<T>, L, T, D, P, O>(
             system, alloc, words, &mut doors, spawner, keeper, host, clock, boot, log, blank,
         )
     }
 }
 
 /// Serves the links of doors, each job on a thread, over a modelled host and by the clock of the system.
-fn serve_at<D, L, R, T>(
-    rt: HostRuntime,
+fn serve_at<L, R, T, O>(
     system: T,
+    alloc: Global,
     words: &[String],
-    setup: Listening,
-    doors: D,
+    doors: NetDoors<T, DoorNotes>,
     keeper: R,
+    boot: u64,
+    log: O,
     blank: Blank,
 ) -> (u8, Option<R>)
 where
-    D: Doors<Source = NetSource<TcpStream, T>, Sink = NetSink<TcpStream>> + Drop,
     L: Ledger + Send + Sync + 'static,
     R: Keeper + Drop + Send + 'static,
-    T: Threads + Wait + time::Clock + Copy + Drop + Send + Sync + 'static,
-    requires doors { (D.seen doors).given ≡ 0 }
+    T: Net<Listener = TcpListener, Stream = TcpStream> + Threads + Wait + time::Clock,
+    T: Copy + Drop + Send + Sync + 'static,
+    O: Log + Copy + Drop + Send + 'static,
+    requires doors { doors.given ≡ 0 }
     requires name { blank.name ≡ L.name }
     requires parts { (blank.parts ≡ L.parts)
         × (blank.parts ≡ (serve_setup_of (map (λ w. string_bytes w) words.now)).tickets) }
 {
-    let beginning = Beginning::<'_, D, R, L, T> {
-        rt,
+    let beginning = Beginning::<'_, NetDoors<T, DoorNotes>, R, L, T, O> {
         system,
+        alloc,
         words,
-        setup,
         doors,
         keeper,
+        boot,
+        log,
         blank,
         ledger: PhantomData,
     };
-    on_threads(system, rt.alloc(), beginning)
+    on_threads(system, alloc, beginning)
 }
 
 /// The same over TCP, at a ledger of its own, with a part for each ticket, until the server stops. The port is listened
-/// on once the rows are opened.
-pub(crate) fn serve_over<R, T>(
+/// on once the rows are opened. The boot word is that of the ids of operations.
+pub(crate) fn serve_over<R, T, O>(
     rt: HostRuntime,
     system: T,
     words: &[String],
     setup: Listening,
     keeper: R,
     stop: Stop,
+    boot: u64,
+    log: O,
 ) -> (u8, Option<R>)
 where
     R: Keeper + Drop + Send + 'static,
     T: Net<Listener = TcpListener, Stream = TcpStream> + Threads + Wait + time::Clock,
     T: Copy + Drop + Send + Sync + 'static,
+    O: Log + Copy + Drop + Send + 'static,
     requires { setup.tickets ≡ (serve_setup_of (map (λ w. string_bytes w) words.now)).tickets }
 {
     let doors = match doors_of(rt, system, setup, stop) {
@@ -131,5 +138,5 @@ where
         Err(trouble) => return (status_of(Err(trouble)), Some(keeper)),
     };
     let blank = Blank::new(u64::from(setup.tickets));
-    serve_at::<_, Brand, R, T>(rt, system, words, setup, doors, keeper, blank)
+    serve_at::<Brand, R, T, O>(system, rt.alloc(), words, doors, keeper, boot, log, blank)
 }

@@ -5,9 +5,11 @@ ghost use Rattle.command_words.specs.ServeWords.{serve_setup_of};
 use crate::alarm::Alarm;
 use crate::doors::Listening;
 use crate::listening::serve_over;
+use crate::request_log::RequestLog;
 use crate::telling::PROGRAM;
 use crate::told_keeper::ToldKeeper;
 use command_words::{RowsPath, serve_setup_of};
+use http_front::{Clock, SystemClock};
 use program_start::{RowsKeeper, StartFault, end_rows};
 use size_values::Seq;
 use std::net::{Net, TcpListener, TcpStream};
@@ -40,7 +42,9 @@ where
     };
     let keeper = RowsKeeper::at(rt, path, Seq::new(rt.alloc()), true);
     let keeper = ToldKeeper::over(rt, keeper, twin);
-    let (status, back) = serve_over(rt, system, words, listening, keeper, stop);
+    let boot = SystemClock::new(system).now();
+    let log = RequestLog::new(rt, listening.logs, listening.port, boot);
+    let (status, back) = serve_over(rt, system, words, listening, keeper, stop, boot, log);
     if let Some(keeper) = back {
         let mut keeper = keeper.into_keeper();
         end_rows(rt, PROGRAM, status, &mut keeper);
