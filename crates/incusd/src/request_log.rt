@@ -10,7 +10,7 @@ use rest_replies::rule_name;
 use serve_loop::Log;
 use size_values::{NoMemory, Text};
 use std::alloc::Global;
-use std::time::Instant;
+use std::time::{SystemTime, UNIX_EPOCH};
 
 /// The most bytes that a line tells of a method. So each line is one write of few bytes, which a pipe takes whole.
 const MOST_METHOD: usize = 64;
@@ -29,8 +29,8 @@ pub(crate) struct RequestLog {
     is_on: bool,
     port: u16,
     boot: u64,
-    /// When the last request had come.
-    came: Option<Instant>,
+    /// The microseconds since 1970 at which the last request had come; 0 where the clock told none.
+    came: u64,
 }
 
 impl RequestLog {
@@ -41,15 +41,17 @@ impl RequestLog {
             is_on,
             port,
             boot,
-            came: None,
+            came: 0,
         }
     }
 
     /// How many microseconds have gone by since the last request had come, where that can be told.
     fn elapsed(&self) -> Option<u128> {
-        match (self.came, Instant::now(&self.rt)) {
-            (Some(came), Ok(now)) => Some(now.duration_since(came).as_micros()),
-            _ => None,
+        let now = microseconds(&self.rt);
+        if self.came == 0 || now < self.came {
+            None
+        } else {
+            Some(u128::from(now - self.came))
         }
     }
 
@@ -72,7 +74,7 @@ impl RequestLog {
         let method = method_text(alloc, request)?;
         let target = target_text(alloc, request)?;
         let code = number_text(alloc, code.map(u128::from))?;
-        let rule = rule.map_or("-", rule_name);
+        let rule = rule_text(rule);
         let micros = number_text(alloc, self.elapsed())?;
         Ok(format!(in alloc;
             "{} 127.0.0.1:{} {method} {target} {code} {rule} {micros}\n",
@@ -97,7 +99,7 @@ impl RequestLog {
 impl Log for RequestLog {
     fn came(&mut self) {
         if self.is_on {
-            self.came = Instant::now(&self.rt).ok();
+            self.came = microseconds(&self.rt);
         }
     }
 
@@ -111,6 +113,25 @@ impl Log for RequestLog {
         if self.is_on {
             tell_line(self.rt, self.end_line(number, report));
         }
+    }
+}
+
+/// The microseconds since 1970 that the clock of the system tells; 0 where it tells none.
+fn microseconds(rt: &HostRuntime) -> u64 {
+    let Ok(now) = SystemTime::now(rt) else {
+        return 0;
+    };
+    match now.duration_since(UNIX_EPOCH) {
+        Ok(since) => u64::try_from(since.as_micros()).unwrap_or(0),
+        Err(_) => 0,
+    }
+}
+
+/// The name of a rule, or a dash where none was broken.
+fn rule_text(rule: Option<Rule>) -> &'static str {
+    match rule {
+        Some(rule) => rule_name(rule),
+        None => "-",
     }
 }
 
