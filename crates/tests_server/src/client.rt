@@ -1,5 +1,5 @@
 //! The client of a session of events, by a script.
-ghost use Rattle.std.specs.Prelude.{None};
+ghost use Rattle.std.specs.Prelude.{◌≡◌, None};
 
 use http_front::{Source, SourceFailed};
 
@@ -33,7 +33,10 @@ impl Client {
     }
 
     /// What comes next.
-    fn next(&mut self) -> Piece {
+    fn next(&mut self) -> Piece
+        ensures ended { self.new.ended ≡ self.old.ended }
+        ensures faults { self.new.faults ≡ self.old.faults }
+    {
         match self.script.get(self.at) {
             Some(piece) => {
                 self.at = self.at.saturating_add(1);
