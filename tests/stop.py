@@ -179,14 +179,18 @@ def crowd(program):
 
 
 def change_on(server, number, kept, cut, steady):
-    """Makes one project after the other. What was acknowledged, and whether the last reply was whole or absent."""
-    made, got = 0, b""
+    """Makes one project after the other, and changes one once there are as many as may be (rule C1). What was acknowledged, and whether the
+    last reply was whole or absent."""
+    made, got, is_full = 0, b"", False
     try:
         with server.connect() as link:
             reader = Reader(link)
             while True:
                 name = f"p{number}-{made}"
-                link.sendall(message("POST", "/1.0/projects", {"name": name}))
+                if is_full:
+                    link.sendall(message("PATCH", "/1.0/projects/default", {"config": {f"user.c{number}": str(made)}}))
+                else:
+                    link.sendall(message("POST", "/1.0/projects", {"name": name}))
                 reader.held = b""
                 got = b""
                 while b"\r\n\r\n" not in got:
@@ -201,10 +205,14 @@ def change_on(server, number, kept, cut, steady):
                     if not piece:
                         return
                     body += piece
-                need(head.startswith(b"HTTP/1.1 200"), f"{head}")
-                kept.append(name)
                 got = b""
                 made += 1
+                if not is_full and b'"rule":"C1"' in body:
+                    is_full = True
+                    continue
+                need(head.startswith(b"HTTP/1.1 200"), f"{head}")
+                if not is_full:
+                    kept.append(name)
                 steady.set()
     except ConnectionError:
         return
