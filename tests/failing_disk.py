@@ -8,8 +8,8 @@ before the C library, and lets chosen calls of pwrite, fdatasync and fsync fail.
 writes in a row or ten syncs in a row fail, at random moments, with EIO or ENOSPC, while one change is asked after the other. Then:
 
 1. Each answer is 2xx or 503 (K1), and the server shows every change that it acknowledged, and none that it refused.
-2. Where its file could not be opened again, every change is refused from then on, and standard error says that the program is to be
-   started anew. Over the same file a new server has every acknowledged change, and one of the refused ones at most.
+2. Where its file could not be opened again, it ends with status 6 once it answered, and standard error tells why. Over the same file a
+   new server has every acknowledged change, and one of the refused ones at most.
 3. Standard error tells once when changes begin to be refused, with the cause, and once when they are made again.
 4. In the end a server ends with status 0, and the file alone, copied without its log, has the same rows.
 
@@ -213,7 +213,7 @@ def change(server, rows, count):
     return answered
 
 
-def judge_lines(answered, said, status):
+def judge_lines(answered, said):
     """What standard error has to tell of these answers."""
     lines = said.splitlines()
     begun = sum(1 for before, now in zip([200] + answered, answered) if now == 503 and before != 503)
@@ -222,7 +222,6 @@ def judge_lines(answered, said, status):
     need(all(line.split(": changes are refused: ")[1] for line in refusals), said)
     again = sum(1 for before, now in zip(answered, answered[1:]) if before == 503 and now and now != 503)
     need(sum(line.endswith(": changes are kept again") for line in lines) == again, (answered, said))
-    need(status == 0, (status, said))
 
 
 def begin(program, disk, file):
@@ -243,15 +242,17 @@ def try_round(program, disk, file, rows, chance, counts):
     left = disk.left()
     disk.clear()
     answered += change(server, rows, 2)
-    need(answered[-1] is not None, ("it ended", answered))
-    need(server.rows() == rows.there, ("what it shows", answered))
+    ended = None in answered
+    answered = [status for status in answered if status is not None]
+    need(ended or server.rows() == rows.there, ("what it shows", answered))
     status, said = server.end()
+    need(status == (6 if ended else 0), (status, said))
     counts[f"{kind} {times}", status] = counts.get((f"{kind} {times}", status), 0) + 1
     counts["refused"] = counts.get("refused", 0) + answered.count(503)
     counts["acknowledged"] = counts.get("acknowledged", 0) + sum(1 for one in answered if one and one != 503)
     counts["mended"] = counts.get("mended", 0) + said.count("which was found kept")
-    judge_lines(answered, said, status)
-    if "start the program anew" in said:
+    judge_lines(answered, said)
+    if ended:
         counts["lost"] = counts.get("lost", 0) + 1
         settle(program, disk, file, rows)
     return left
