@@ -9,8 +9,6 @@
 #[cfg(test)]
 mod alone_links;
 #[cfg(test)]
-mod bells;
-#[cfg(test)]
 mod busy_gate;
 #[cfg(test)]
 mod chance;
@@ -18,8 +16,6 @@ mod chance;
 mod client;
 #[cfg(test)]
 mod events;
-#[cfg(test)]
-mod frames;
 #[cfg(test)]
 mod held;
 #[cfg(test)]
