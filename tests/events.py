@@ -6,7 +6,8 @@
 The program is crates/incusd/out/incusd without `--program` (`bin/incusd --prove` makes it). Each check starts a server of its own, which
 has to end by itself, with status 0 after its last connection.
 
-1. `accept`: the head that accepts a handshake, to the byte; what is no handshake, and a bad query, are refused on a connection that goes on.
+1. `accept`: the head that accepts a handshake, to the byte; what is no handshake, a bad query, and a project that is missing, are refused on
+   a connection that goes on, and once there is that project, the same connection becomes its session.
 2. `creation`: what listeners of each type get of the creation of an instance.
 3. `cancelled`: an operation that is cancelled while it waits tells Pending and Cancelled alone. 20 tries at most.
 4. `a tenant's day`: some 200 requests in two projects, and three clients of the library `websockets`, each of which has to get exactly the
@@ -253,18 +254,21 @@ def accept(program):
         refused(link, handshake().replace(b"Version: 13", b"Version: 8"), "A6")
         refused(link, handshake("?all-projects=true"), "A3", key="all-projects")
         refused(link, handshake("?type=logging"), "A3", key="type")
+        refused(link, handshake("?project=lab"), "N1", due=404, project="lab")
         touch(link)
         need_same([in_short(listener.event())], [TOUCHED], "after the refusals")
         leave(server, [listener])
-        need(ask(link, "GET", "/1.0", last=True)[0] == 200, "the last request")
-    return "the head to the byte, and 4 refusals"
+        need(ask(link, "POST", "/1.0/projects", {"name": "lab"})[0] == 200, "the project")
+        link.sendall(handshake("?project=lab"))
+        need(Reader(link).head().encode() + b"\r\n\r\n" == HEAD, "the session of a project that is there")
+    return "the head to the byte, and 5 refusals"
 
 
-def refused(link, text, rule, **members):
+def refused(link, text, rule, due=400, **members):
     """The request is refused by this rule, and the connection goes on."""
     link.sendall(text)
     status, body = Reader(link).reply()
-    need(status == 400 and body["metadata"] == {**members, "rule": rule}, f"{text}: {status}, {body}")
+    need(status == due and body["metadata"] == {**members, "rule": rule}, f"{text}: {status}, {body}")
     need(ask(link, "GET", "/1.0")[0] == 200, "the connection doesn't go on after a refusal")
 
 
@@ -368,6 +372,8 @@ def tenants_day(program):
 
 async def heard_of_day(server, teller):
     """What three clients got of a day, each exactly what is due to it."""
+    for project, (config, _) in TENANTS.items():
+        await asyncio.to_thread(found, teller, project, config)
     queries = {"?project=lab": ("lab", BOTH), "?project=lab&type=operation": ("lab", {"operation"}),
                "?project=shop&type=lifecycle": ("shop", {"lifecycle"})}
     base = f"ws://127.0.0.1:{server.port}/1.0/events"
@@ -406,23 +412,32 @@ async def arrived(texts, due, tasks):
     await asyncio.sleep(0.2)
 
 
+# Projects with their settings, and with the project in which their networks are told: those of lab are its own, those of shop belong to the
+# project `default`.
+TENANTS = {"lab": ({"features.networks": "true"}, "lab"), "shop": ({}, "default")}
+
+
 def spend_day(teller):
     teller.change("POST", "/1.0/storage-pools", {"driver": "dir", "name": "p0"}, "default", "storage-pool-created",
                   "/1.0/storage-pools/p0")
-    # The networks of lab are its own, those of shop belong to the project `default`.
-    furnish(teller, "lab", {"features.networks": "true"}, "lab")
-    furnish(teller, "shop", {}, "default")
+    for project, (_, home) in TENANTS.items():
+        furnish(teller, project, home)
     for number in range(3):
-        for project in ("lab", "shop"):
+        for project in TENANTS:
             live(teller, project, f"i{number}")
 
 
-def furnish(teller, project, config, home):
-    """All of a project but its instances. Its networks are told in the project `home`."""
-    query = f"?project={project}"
+def found(teller, project, config):
+    """A new project, to which its listeners can subscribe then."""
     path = f"/1.0/projects/{project}"
     teller.change("POST", "/1.0/projects", {"name": project, "config": config}, "default", "project-created", path)
     teller.ask("POST", "/1.0/projects", {"name": project}, due=409)
+
+
+def furnish(teller, project, home):
+    """All of a project but its instances. Its networks are told in the project `home`."""
+    query = f"?project={project}"
+    path = f"/1.0/projects/{project}"
     teller.change("PATCH", path, {"description": "a tenant"}, "default", "project-updated", path)
 
     def at_once(method, target, body, does, names=None, at=project):

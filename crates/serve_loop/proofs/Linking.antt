@@ -1,6 +1,6 @@
 -- A link, from what its parts ensure.
 use Rattle.std.proofs.Common.{◌≡◌, ◌≢◌, ◌≤◌, ◌⊎◌, ◌++◌, ℕ, List, [], ◌∷◌, length, Bool, true, false, refl, ap, sym, subst, ◌∙◌}
-use Rattle.std.proofs.Common.{None, inl, inr, arith}
+use Rattle.std.proofs.Common.{Some, None, Ok, inl, inr, arith}
 use Rattle.size_values.specs.Causes.{Rose}
 use Rattle.http_heads.specs.declared.request.HeadFault.{HeadFault}
 use Rattle.http_heads.specs.declared.request.Request.{Request}
@@ -14,7 +14,7 @@ use Rattle.gates.specs.Gates.{Between}
 use Rattle.gates.specs.History.{Item}
 use Rattle.gates.proofs.Histories.{between-append, between-none}
 use Rattle.gates.specs.rest_answers.specs.Links.{BreaksOff, Outlet, Takes}
-use Rattle.gates.specs.rest_answers.specs.Texts.{HasText, IsUnprinted, printed, text_for}
+use Rattle.gates.specs.rest_answers.specs.Texts.{IsUnprinted, printed, text_for}
 use Rattle.gates.specs.rest_answers.specs.Writing.{RefusesPlace, WritesAnswer}
 use Rattle.gates.specs.rest_answers.specs.declared.answers.PrintedReply.{PrintedReply}
 use Rattle.gates.specs.rest_answers.specs.declared.writing.Written.{Written}
@@ -24,8 +24,10 @@ use Rattle.rest_routes.specs.Commands.{command_of}
 use Rattle.serve_loop.specs.Leave.{AsksNext, GivesLeave, GivesLeaveAt}
 use Rattle.serve_loop.specs.Replying.{Reaches}
 use Rattle.serve_loop.specs.Serving.{Asks, CarriesOut, Exchange, KeepsGate, LinkWorld, Serves, ServesAll}
-use Rattle.serve_loop.specs.Serving.{Follows, Meets, Serving, Stops, Turns, Untouched, end_after, turn_after}
-use Rattle.serve_loop.specs.Subscriptions.{subscription_of}
+use Rattle.serve_loop.specs.Serving.{Follows, Looks, Meets, Serving, Stops, Turns, Untouched, WritesReply, end_after}
+use Rattle.serve_loop.specs.Serving.{turn_after}
+use Rattle.serve_loop.specs.Subscriptions.{asks_by, asks_of, begins, is_refusal, let_in, looked_for, subscription_of}
+use Rattle.serve_loop.specs.declared.subscriptions.Subscription.{Subscription}
 use Rattle.serve_loop.specs.declared.link.LinkEnd.{LinkEnd}
 use Rattle.serve_loop.specs.declared.link.LinkEnd.TheVariants as end
 use Rattle.serve_loop.specs.declared.link.Turn.{Turn}
@@ -37,62 +39,96 @@ use Rattle.serve_loop.proofs.Taking.{rose_after, takes_twice}
 
 -- A turn that takes the next request, after leave where that is awaited, and has it answered goes on after its reply, or
 -- it is the final one, or the link ends at a failed write, or where memory for the reply was refused.
-turn_answers : (boot : ℕ) (w w' : LinkWorld) (mid : Outlet) (request : Request) (r : Reply) (a : PrintedReply)
-    (how : Written) → Asks w w' (got.Request request) → GivesLeave request.expects w.sink mid
-    → subscription_of request ≡ None → Reaches (command_of request boot) w.gate w'.gate w.clock w'.clock r
-    → HasText a r boot request → WritesAnswer how a request mid w'.sink
-    → Turns boot (turn_after how request.last) w w'
-turn_answers boot w w' mid request r a how asks gives plain reaches text writes = by how writes where
-  e : Exchange
-  e = record { request = request; history = reaches.history; reply = r }
+turn_answers : (boot : ℕ) (w w' : LinkWorld) (mid : Outlet) (request : Request) (r : Reply) (next : Turn)
+    → Asks w w' (got.Request request) → GivesLeave request.expects w.sink mid → begins request r ≡ None
+    → Reaches (asks_of request boot) w.gate w'.gate w.clock w'.clock r
+    → WritesReply boot request r next mid w'.sink → Turns boot next w w'
+turn_answers boot w w' mid request r next asks gives plain reaches written =
+    subst (λ t. Turns boot t w w') (sym written.next_is) (by written.how written.writes) where
+      e : Exchange
+      e = record { request = request; history = reaches.history; reply = r }
 
-  carried : CarriesOut boot w w' e
-  carried = record { asked = asks; plain = plain; gate = reaches.gate; handles = reaches.handles }
+      carried : CarriesOut boot w w' e
+      carried = record { asked = asks; begun = plain; gate = reaches.gate; handles = reaches.handles }
 
-  is : ¬ IsUnprinted a → text_for a request ≡ printed r boot request
-  is has = text_is a r boot request text has
+      a : PrintedReply
+      a = written.answered
 
-  served : ¬ IsUnprinted a → Takes mid w'.sink (text_for a request) → Serves boot w w' e
-  served has takes = record {
-    carries = carried;
-    replied = takes_twice (gives_takes request.expects w.sink mid gives) (subst (Takes mid w'.sink) (is has) takes);
-  }
+      is : ¬ IsUnprinted a → text_for a request ≡ printed r boot request
+      is has = text_is a r boot request written.text has
 
-  whole : (last : Bool) → request.last ≡ last → ¬ IsUnprinted a → Takes mid w'.sink (text_for a request)
-      → Turns boot (turn_after ended.Whole last) w w'
-  whole true last has takes = (e, served has takes, last)
-  whole false last has takes = (e, served has takes, last)
+      served : ¬ IsUnprinted a → Takes mid w'.sink (text_for a request) → Serves boot w w' e
+      served has takes = record {
+        carries = carried;
+        replied = takes_twice (gives_takes request.expects w.sink mid gives) (subst (Takes mid w'.sink) (is has) takes);
+      }
 
-  by : (how : Written) → WritesAnswer how a request mid w'.sink → Turns boot (turn_after how request.last) w w'
-  by ended.Whole writes = whole request.last refl writes.0 writes.1
-  by ended.WriteFault writes = inl (
-    e,
-    carried,
-    record { between = mid; gives = gives; breaks = subst (BreaksOff mid w'.sink) (is writes.0) writes.1 },
-  )
-  by ended.NoMemory writes = inr (inr (inr (inl (
-    e,
-    carried,
-    takes_memory a r boot request text writes.0,
-    gives_still request.expects w.sink mid w'.sink writes.1 gives,
-  ))))
+      whole : (last : Bool) → request.last ≡ last → ¬ IsUnprinted a → Takes mid w'.sink (text_for a request)
+          → Turns boot (turn_after ended.Whole last) w w'
+      whole true last has takes = (e, served has takes, last)
+      whole false last has takes = (e, served has takes, last)
+
+      by : (how : Written) → WritesAnswer how a request mid w'.sink → Turns boot (turn_after how request.last) w w'
+      by ended.Whole writes = whole request.last refl writes.0 writes.1
+      by ended.WriteFault writes = inl (
+        e,
+        carried,
+        record { between = mid; gives = gives; breaks = subst (BreaksOff mid w'.sink) (is writes.0) writes.1 },
+      )
+      by ended.NoMemory writes = inr (inr (inr (inl (
+        e,
+        carried,
+        takes_memory a r boot request written.text writes.0,
+        gives_still request.expects w.sink mid w'.sink writes.1 gives,
+      ))))
+
+-- what a request asks for that subscribes to nothing, and one that subscribes
+asks_plain : (boot : ℕ) (request : Request) → subscription_of request ≡ None → command_of request boot ≡ asks_of request boot
+asks_plain boot request plain = ap (λ s. asks_by s (command_of request boot)) (sym plain)
+
+asks_wanted : (boot : ℕ) (request : Request) (wanted : Subscription) → subscription_of request ≡ Some wanted
+    → Ok (looked_for wanted) ≡ asks_of request boot
+asks_wanted boot request wanted is = ap (λ s. asks_by s (command_of request boot)) (sym is)
+
+begins_plain : (request : Request) (r : Reply) → subscription_of request ≡ None → begins request r ≡ None
+begins_plain request r plain = ap (λ s. let_in s (is_refusal r)) plain
+
+begins_wanted : (request : Request) (r : Reply) (wanted : Subscription) (refused : Bool)
+    → subscription_of request ≡ Some wanted → is_refusal r ≡ refused → begins request r ≡ let_in (Some wanted) refused
+begins_wanted request r wanted refused is refuses =
+    ap (λ s. let_in s (is_refusal r)) is ∙ ap (λ b. let_in (Some wanted) b) refuses
+
+-- a turn at a request that subscribes: its session begins, or the refusal is answered
+turn_looks : (boot : ℕ) (w w' : LinkWorld) (mid : Outlet) (request : Request) (wanted : Subscription) (next : Turn)
+    → Asks w w' (got.Request request) → GivesLeave request.expects w.sink mid → subscription_of request ≡ Some wanted
+    → Looks boot wanted request next mid w'.sink w.gate w'.gate w.clock w'.clock → Turns boot next w w'
+turn_looks boot w w' mid request wanted next asks gives is (r, reaches, inl (refuses, written)) =
+    turn_answers boot w w' mid request r next asks gives (begins_wanted request r wanted true is refuses)
+    (subst (λ a. Reaches a w.gate w'.gate w.clock w'.clock r) (asks_wanted boot request wanted is) reaches) written
+turn_looks boot w w' mid request wanted next asks gives is (r, reaches, inr (accepts, next_is, same)) =
+    subst (λ t. Turns boot t w w') (sym next_is) (
+      record { request = request; history = asked.history; reply = r },
+      record {
+        asked = asks;
+        begun = begins_wanted request r wanted false is accepts;
+        gate = asked.gate;
+        handles = asked.handles;
+      },
+      gives_still request.expects w.sink mid w'.sink same gives,
+    ) where
+      asked : Reaches (asks_of request boot) w.gate w'.gate w.clock w'.clock r
+      asked = subst (λ a. Reaches a w.gate w'.gate w.clock w'.clock r) (asks_wanted boot request wanted is) reaches
 
 -- a turn at a request: it is answered, or it stops the link
 turn_meets : (boot : ℕ) (w w' : LinkWorld) (mid : Outlet) (request : Request) (next : Turn)
     → Asks w w' (got.Request request) → GivesLeave request.expects w.sink mid
     → Meets boot request next mid w'.sink w.gate w'.gate w.clock w'.clock → Turns boot next w w'
 turn_meets boot w w' mid request next asks gives (inl (plain, replies)) =
-    subst (λ t. Turns boot t w w') (sym replies.next_is)
-    (turn_answers boot w w' mid request replies.reply replies.answered replies.how asks gives plain replies.reaches
-    replies.text replies.writes)
-turn_meets boot w w' mid request next asks gives (inr (inl (wanted, is, subscribes, same))) =
-    subst (λ t. Turns boot t w w') (sym is) (
-      request,
-      asks,
-      subscribes,
-      record { gate = same.gate_is; clock = same.clock_is },
-      gives_still request.expects w.sink mid w'.sink same.sink_is gives,
-    )
+    turn_answers boot w w' mid request replies.reply next asks gives (begins_plain request replies.reply plain)
+    (subst (λ a. Reaches a w.gate w'.gate w.clock w'.clock replies.reply) (asks_plain boot request plain) replies.reaches)
+    replies.written
+turn_meets boot w w' mid request next asks gives (inr (inl (wanted, is, looks))) =
+    turn_looks boot w w' mid request wanted next asks gives is looks
 turn_meets boot w w' mid request next asks gives (inr (inr (is, same))) =
     subst (λ t. Turns boot t w w') (sym is) (inr (inr (inr (inr (
       request,
@@ -227,7 +263,7 @@ stop_goes boot end.NoMemory w w' (inr (inl stops)) = goes_along w w' stops.1.gat
 stop_goes boot end.NoMemory w w' (inr (inr (inl stops))) = goes_along w w' stops.2.gate
 stop_goes boot end.NoMemory w w' (inr (inr (inr (inl stops)))) = (stops.0.history, stops.1.gate)
 stop_goes boot end.NoMemory w w' (inr (inr (inr (inr stops)))) = goes_along w w' stops.2.gate
-stop_goes boot (end.Events wanted) w w' stops = goes_along w w' stops.3.gate
+stop_goes boot (end.Events wanted) w w' stops = (stops.0.history, stops.1.gate)
 
 -- what was done at the gate is one history
 pub link_goes : (boot : ℕ) (w w' : LinkWorld) (ends : LinkEnd) → Serving boot w w' ends → Goes w w'
@@ -256,7 +292,7 @@ few_at boot end.NoMemory w w' (inr (inl stops)) few = stops.0.few
 few_at boot end.NoMemory w w' (inr (inr (inl stops))) few = stops.1.few
 few_at boot end.NoMemory w w' (inr (inr (inr (inl stops)))) few = stops.1.asked.few
 few_at boot end.NoMemory w w' (inr (inr (inr (inr stops)))) few = stops.1.few
-few_at boot (end.Events wanted) w w' stops few = stops.1.few
+few_at boot (end.Events wanted) w w' stops few = stops.1.asked.few
 
 pub link_few : (boot : ℕ) (w w' : LinkWorld) (ends : LinkEnd) → length w.held ≤ most_held → Serving boot w w' ends
     → length w'.held ≤ most_held

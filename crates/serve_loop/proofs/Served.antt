@@ -1,27 +1,23 @@
 -- A link over a text that is known whole.
 use Rattle.std.proofs.Common.{◌≡◌, ◌⊎◌, ◌++◌, ℕ, List, [], ◌∷◌, Bool, true, false, Option, Some, None}
-use Rattle.std.proofs.Common.{IfSome, if◌then◌else◌, refl, ap, sym, ◌∙◌, subst, inl, inr, append_assoc}
+use Rattle.std.proofs.Common.{IfSome, refl, ap, sym, ◌∙◌, subst, inl, inr}
 use Rattle.std.proofs.lemmas.List.{append-nil}
 use Rattle.std.specs.Io.KnownBytes.{Appends, prepend_known}
 use Rattle.http_heads.specs.Messages.{Begins, Splits, Ending, TellsLeave, ended, cut, malformed, EndsAs}
-use Rattle.http_heads.proofs.LeaveLemmas.{TellsLeave-message}
 use Rattle.http_heads.specs.declared.request.Request.{Request}
 use Rattle.http_front.specs.Reading.{ReadsNext}
 use Rattle.http_front.specs.declared.read.Got.TheVariants as got
 use Rattle.gates.specs.Gates.{Between}
 use Rattle.gates.proofs.Histories.{between-append, between-none}
-use Rattle.serve_loop.specs.Subscriptions.{subscription_of}
 use Rattle.serve_loop.specs.declared.subscriptions.Subscription.{Subscription}
 use Rattle.gates.specs.rest_answers.specs.Texts.{printed}
 use Rattle.gates.specs.rest_answers.proofs.Linking.{appends_nothing, appends_twice}
 use Rattle.gates.specs.rest_answers.proofs.Splitting.{GoesOn, none_more, splits_after}
-use Rattle.serve_loop.specs.Serving.{Exchange, LinkWorld, Serves, ServesAll, Serving, Stops, Turns}
+use Rattle.serve_loop.specs.Serving.{ComesTo, Exchange, LinkWorld, Serves, ServesAll, Serving, Stops, Turns}
 use Rattle.serve_loop.specs.Leave.{GivesLeave, leave_if, leave_of}
-use Rattle.serve_loop.specs.Texts.{HandlesAll, IsFault, LeaveAt, ServesText, ReplyWorld, answered, answered_by, end_at}
-use Rattle.serve_loop.specs.Texts.{end_by}
-use Rattle.serve_loop.specs.Texts.{end_due, printed_replies}
-use Rattle.serve_loop.specs.Texts.{requests_of, reply_world}
-use Rattle.serve_loop.specs.Texts.{text_at, history_of}
+use Rattle.serve_loop.specs.Texts.{EndsAfter, EndsBy, HandlesAll, IsFault, LeaveAt, ServesText, ReplyWorld, begun_by}
+use Rattle.serve_loop.specs.Texts.{end_at, history_of, printed_replies, reply_world, requests_of, text_at, unless_begun}
+use Rattle.serve_loop.specs.Texts.{written_at}
 use Rattle.serve_loop.specs.declared.link.LinkEnd.{LinkEnd}
 use Rattle.serve_loop.specs.declared.link.LinkEnd.TheVariants as end
 use Rattle.serve_loop.specs.declared.link.Turn.TheVariants as turn
@@ -71,17 +67,24 @@ reads_first next w' e more (Some bytes) first follows =
     × (input w' ≡ Some rest))) first.2 follows in
     (rests.0, (first.0, first.1, rests.1), rests.2)
 
--- one request, and then more of them
+-- what was taken and came to its reply, of which this was written, and then more
+next_together : (boot : ℕ) (session : Option Subscription) (w next w' : LinkWorld) (e : Exchange) (more : List Exchange)
+    → ComesTo boot session w next e → Appends w.sink.held next.sink.held (written_at boot e)
+    → Together boot next more w' → Together boot w (e ∷ more) w'
+next_together boot session w next w' e more comes written follows = record {
+  read = reads_first next w' e more (input w) comes.asked.next follows.read;
+  written = appends_twice w.sink.held next.sink.held w'.sink.held (written_at boot e) (printed_replies boot more)
+      written follows.written;
+  gate = between-append comes.gate follows.gate;
+  handles = (next.clock, comes.handles, follows.handles);
+}
+
+-- one request that was answered, and then more of them
 first_together : (boot : ℕ) (w next w' : LinkWorld) (e : Exchange) (more : List Exchange) → Serves boot w next e
     → Together boot next more w' → Together boot w (e ∷ more) w'
-first_together boot w next w' e more serves follows = record {
-  read = reads_first next w' e more (input w) serves.carries.asked.next follows.read;
-  written = appends_twice w.sink.held next.sink.held w'.sink.held
-      (leave_of e.request ++ printed e.reply boot e.request) (printed_replies boot more) serves.replied.written
-      follows.written;
-  gate = between-append serves.carries.gate follows.gate;
-  handles = (next.clock, serves.carries.handles, follows.handles);
-}
+first_together boot w next w' e more serves follows = next_together boot None w next w' e more serves.carries
+    (subst (λ s. Appends w.sink.held next.sink.held (leave_of e.request ++ unless_begun s (printed e.reply boot e.request)))
+    (sym serves.carries.begun) serves.replied.written) follows
 
 -- all that went on, and then some more
 all_together : (boot : ℕ) (w v w' : LinkWorld) (xs ys : List Exchange) → ServesAll boot w xs v → Together boot v ys w'
@@ -92,61 +95,38 @@ all_together boot w v w' (e ∷ xs) ys serves follows =
 
 -- ---- the last request
 
--- none of these subscribes to events, and none is the last on its connection
-abbrev AreGoing : List Request → Type 0
+-- after none of these a session begins, and none is the last on its connection
+abbrev AreGoing : List Exchange → Type 0
 AreGoing [] = Unit {0}
-AreGoing (m ∷ more) = (subscription_of m ≡ None) × (m.last ≡ false) × AreGoing more
+AreGoing (e ∷ more) = (begun_by e ≡ None) × (e.request.last ≡ false) × AreGoing more
 
-served_going : (boot : ℕ) (w w' : LinkWorld) (xs : List Exchange) → ServesAll boot w xs w' → AreGoing (requests_of xs)
+served_going : (boot : ℕ) (w w' : LinkWorld) (xs : List Exchange) → ServesAll boot w xs w' → AreGoing xs
 served_going boot w w' [] same = tt
 served_going boot w w' (e ∷ more) serves =
-    (serves.1.carries.plain, serves.2, served_going boot serves.0 w' more serves.3)
+    (serves.1.carries.begun, serves.2, served_going boot serves.0 w' more serves.3)
 
-answered_going : (ms more : List Request) → AreGoing ms → answered (ms ++ more) ≡ ms ++ answered more
-answered_going [] more going = refl
-answered_going (m ∷ ms) more going =
-    ap (λ s. answered_by s m (answered (ms ++ more))) going.0
-    ∙ ap (λ last. m ∷ (if last then [] else answered (ms ++ more))) going.1
-    ∙ ap (λ xs. m ∷ xs) (answered_going ms more going.2)
+-- a link ends after these as it does after those behind them
+ends_going : (xs ys : List Exchange) (left : List Request) (ending : Ending) (ends : LinkEnd) → AreGoing xs
+    → EndsAfter ys left ending ends → EndsAfter (xs ++ ys) left ending ends
+ends_going [] ys left ending ends going after = after
+ends_going (e ∷ xs) ys left ending ends going after =
+    subst (λ s. EndsBy s e.request.last (xs ++ ys) ends (EndsAfter (xs ++ ys) left ending ends)) (sym going.0)
+    (subst (λ last. EndsBy None last (xs ++ ys) ends (EndsAfter (xs ++ ys) left ending ends)) (sym going.1)
+    (ends_going xs ys left ending ends going.2 after))
 
-due_going : (ms more : List Request) (ending : Ending) → AreGoing ms → end_due (ms ++ more) ending ≡ end_due more ending
-due_going [] more ending going = refl
-due_going (m ∷ ms) more ending going =
-    ap (λ s. end_by s m (end_due (ms ++ more) ending)) going.0
-    ∙ ap (λ last. if last then end.Ended else end_due (ms ++ more) ending) going.1
-    ∙ due_going ms more ending going.2
+-- it ends after a request that is the last on its connection
+ends_final : (e : Exchange) (left : List Request) (ending : Ending) → begun_by e ≡ None → e.request.last ≡ true
+    → EndsAfter (e ∷ []) left ending end.Ended
+ends_final e left ending plain last =
+    subst (λ s. EndsBy s e.request.last [] end.Ended (EndsAfter [] left ending end.Ended)) (sym plain)
+    (subst (λ l. EndsBy None l [] end.Ended (EndsAfter [] left ending end.Ended)) (sym last) (refl, refl))
 
--- after these comes a request that is the last on its connection
-answered_final : (ms : List Request) (m : Request) (more : List Request) → AreGoing ms → subscription_of m ≡ None
-    → m.last ≡ true → answered (ms ++ m ∷ more) ≡ ms ++ m ∷ []
-answered_final ms m more going plain last =
-    answered_going ms (m ∷ more) going
-    ∙ ap (λ s. ms ++ answered_by s m (answered more)) plain
-    ∙ ap (λ l. ms ++ m ∷ (if l then [] else answered more)) last
-
-due_final : (ms : List Request) (m : Request) (more : List Request) (ending : Ending) → AreGoing ms
-    → subscription_of m ≡ None → m.last ≡ true → end_due (ms ++ m ∷ more) ending ≡ end.Ended
-due_final ms m more ending going plain last =
-    due_going ms (m ∷ more) ending going
-    ∙ ap (λ s. end_by s m (end_due more ending)) plain
-    ∙ ap (λ l. if l then end.Ended else end_due more ending) last
-
--- after these comes a request that subscribes to events
-answered_events : (ms : List Request) (m : Request) (more : List Request) (wanted : Subscription) → AreGoing ms
-    → subscription_of m ≡ Some wanted → answered (ms ++ m ∷ more) ≡ ms
-answered_events ms m more wanted going is =
-    answered_going ms (m ∷ more) going
-    ∙ ap (λ s. ms ++ answered_by s m (answered more)) is
-    ∙ append-nil ms
-
-due_events : (ms : List Request) (m : Request) (more : List Request) (wanted : Subscription) (ending : Ending)
-    → AreGoing ms → subscription_of m ≡ Some wanted → end_due (ms ++ m ∷ more) ending ≡ end.Events wanted
-due_events ms m more wanted ending going is =
-    due_going ms (m ∷ more) ending going ∙ ap (λ s. end_by s m (end_due more ending)) is
-
-requests-append : (xs ys : List Exchange) → requests_of (xs ++ ys) ≡ requests_of xs ++ requests_of ys
-requests-append [] ys = refl
-requests-append (e ∷ xs) ys = ap (λ ms. e.request ∷ ms) (requests-append xs ys)
+-- it ends where a session begins
+ends_events : (e : Exchange) (left : List Request) (ending : Ending) (wanted : Subscription) → begun_by e ≡ Some wanted
+    → EndsAfter (e ∷ []) left ending (end.Events wanted)
+ends_events e left ending wanted begun =
+    subst (λ s. EndsBy s e.request.last [] (end.Events wanted) (EndsAfter [] left ending (end.Events wanted)))
+    (sym begun) (refl, refl)
 
 -- ---- links
 
@@ -172,7 +152,7 @@ reached boot w v xs text messages ending all is splits =
 
 -- a link that ends with its input
 text_at_end : (boot : ℕ) (w v w' : LinkWorld) (xs : List Exchange) (text : List ℕ) (messages : List Request)
-    (ending other : Ending) (awaited : Bool) → Together boot w xs v → AreGoing (requests_of xs) → input w ≡ Some text
+    (ending other : Ending) (awaited : Bool) → Together boot w xs v → AreGoing xs → input w ≡ Some text
     → Splits text messages ending → w'.gate ≡ v.gate → w'.clock ≡ v.clock
     → ((rest : List ℕ) → input v ≡ Some rest → EndsAs rest other × LeaveAt (end_at other) rest awaited)
     → Appends v.sink.held w'.sink.held (leave_if awaited ++ text_at (end_at other))
@@ -181,23 +161,46 @@ text_at_end boot w v w' xs text messages ending other awaited all going is split
     let far : Behind text xs v messages ending = reached boot w v xs text messages ending all is splits in
     let none : (far.goes_on.more ≡ []) × (ending ≡ other) = none_more far.rest far.goes_on.more ending other
     far.goes_on.rest_splits (stands far.rest far.input_is).0 in
-    let are : messages ≡ requests_of xs =
-    far.goes_on.messages_are ∙ ap (λ ms. requests_of xs ++ ms) none.0 ∙ append-nil (requests_of xs) in
     record {
       exchanges = xs;
-      requests_are = sym (ap answered (are ∙ sym (append-nil (requests_of xs)))
-          ∙ answered_going (requests_of xs) [] going ∙ append-nil (requests_of xs));
-      left = far.rest;
-      begins = far.begins;
+      left = far.goes_on.more;
+      messages_are = far.goes_on.messages_are;
+      ends_so = subst (λ ys. EndsAfter ys far.goes_on.more ending (end_at other)) (append-nil xs)
+          (ends_going xs [] far.goes_on.more ending (end_at other) going (none.0, ap end_at (sym none.1)));
+      rest = far.rest;
+      text_is = far.begins;
       gate = subst (λ g. Between (history_of xs) w.gate g) (sym gate) all.gate;
       handles = subst (λ told. HandlesAll boot w.clock xs told) (sym clock) all.handles;
-      end_is = ap end_at (sym none.1)
-          ∙ sym (ap (λ ms. end_due ms ending) (are ∙ sym (append-nil (requests_of xs)))
-          ∙ due_going (requests_of xs) [] ending going);
       awaited = awaited;
       leave_is = (stands far.rest far.input_is).1;
       written = appends_twice w.sink.held v.sink.held w'.sink.held (printed_replies boot xs)
           (leave_if awaited ++ text_at (end_at other)) all.written written;
+    }
+
+-- a link that ends after an exchange, and writes no more
+text_at_last : (boot : ℕ) (w v w' : LinkWorld) (xs : List Exchange) (e : Exchange) (text : List ℕ)
+    (messages : List Request) (ending : Ending) (ends : LinkEnd) → ServesAll boot w xs v → Together boot v (e ∷ []) w'
+    → ((left : List Request) → EndsAfter (e ∷ []) left ending ends) → ((rest : List ℕ) → LeaveAt ends rest false)
+    → text_at ends ≡ [] → input w ≡ Some text → Splits text messages ending
+    → ServesText boot text messages ending ends (reply_world_of w) (reply_world_of w')
+text_at_last boot w v w' xs e text messages ending ends serves last so no_leave no_text is splits =
+    let all : Together boot w (xs ++ e ∷ []) w' = all_together boot w v w' xs (e ∷ []) serves last in
+    let far : Behind text (xs ++ e ∷ []) w' messages ending =
+    reached boot w w' (xs ++ e ∷ []) text messages ending all is splits in
+    record {
+      exchanges = xs ++ e ∷ [];
+      left = far.goes_on.more;
+      messages_are = far.goes_on.messages_are;
+      ends_so = ends_going xs (e ∷ []) far.goes_on.more ending ends (served_going boot w v xs serves)
+          (so far.goes_on.more);
+      rest = far.rest;
+      text_is = far.begins;
+      gate = all.gate;
+      handles = all.handles;
+      awaited = false;
+      leave_is = no_leave far.rest;
+      written = subst (λ t. Appends w.sink.held w'.sink.held (printed_replies boot (xs ++ e ∷ []) ++ t)) (sym no_text)
+          (subst (Appends w.sink.held w'.sink.held) (sym (append-nil (printed_replies boot (xs ++ e ∷ [])))) all.written);
     }
 
 -- a link that ends after a final request
@@ -205,31 +208,9 @@ text_at_final : (boot : ℕ) (w v w' : LinkWorld) (xs : List Exchange) (text : L
     (ending : Ending) → ServesAll boot w xs v → Turns boot turn.Final v w' → input w ≡ Some text
     → Splits text messages ending → ServesText boot text messages ending end.Ended (reply_world_of w) (reply_world_of w')
 text_at_final boot w v w' xs text messages ending serves final is splits =
-    let all : Together boot w (xs ++ final.0 ∷ []) w' = all_together boot w v w' xs (final.0 ∷ []) serves
-    (first_together boot v w' w' final.0 [] final.1 (none_together boot w')) in
-    let far : Behind text (xs ++ final.0 ∷ []) w' messages ending =
-    reached boot w w' (xs ++ final.0 ∷ []) text messages ending all is splits in
-    let going : AreGoing (requests_of xs) = served_going boot w v xs serves in
-    let are : messages ≡ requests_of xs ++ final.0.request ∷ far.goes_on.more =
-    far.goes_on.messages_are
-    ∙ ap (λ ms. ms ++ far.goes_on.more) (requests-append xs (final.0 ∷ []))
-    ∙ append_assoc (requests_of xs) (final.0.request ∷ []) far.goes_on.more in
-    record {
-      exchanges = xs ++ final.0 ∷ [];
-      requests_are = requests-append xs (final.0 ∷ [])
-          ∙ sym (ap answered are
-          ∙ answered_final (requests_of xs) final.0.request far.goes_on.more going final.1.carries.plain final.2);
-      left = far.rest;
-      begins = far.begins;
-      gate = all.gate;
-      handles = all.handles;
-      end_is = sym (ap (λ ms. end_due ms ending) are
-          ∙ due_final (requests_of xs) final.0.request far.goes_on.more ending going final.1.carries.plain final.2);
-      awaited = false;
-      leave_is = refl;
-      written = subst (Appends w.sink.held w'.sink.held)
-          (sym (append-nil (printed_replies boot (xs ++ final.0 ∷ [])))) all.written;
-    }
+    text_at_last boot w v w' xs final.0 text messages ending end.Ended serves
+    (first_together boot v w' w' final.0 [] final.1 (none_together boot w'))
+    (λ left. ends_final final.0 left ending final.1.carries.begun final.2) (λ rest. refl) refl is splits
 
 -- what is said of the bytes to come holds where they are known
 at_known : (P : List ℕ → Type 0) (known : Option (List ℕ)) → IfSome known P → (rest : List ℕ) → known ≡ Some rest
@@ -246,36 +227,18 @@ leave_alone : (v w' : LinkWorld) (awaited : Bool) → GivesLeave awaited v.sink 
 leave_alone v w' awaited gives = subst (Appends v.sink.held w'.sink.held) (sym (append-nil (leave_if awaited)))
     (gives_takes awaited v.sink w'.sink gives).written
 
--- a link that ends at a request that subscribes to events
+-- a link that ends where a session of events begins
 text_at_events : (boot : ℕ) (w v w' : LinkWorld) (xs : List Exchange) (text : List ℕ) (messages : List Request)
-    (ending : Ending) (wanted : Subscription) → Together boot w xs v → AreGoing (requests_of xs)
-    → Stops boot (end.Events wanted) v w' → input w ≡ Some text → Splits text messages ending
+    (ending : Ending) (wanted : Subscription) → ServesAll boot w xs v → Stops boot (end.Events wanted) v w'
+    → input w ≡ Some text → Splits text messages ending
     → ServesText boot text messages ending (end.Events wanted) (reply_world_of w) (reply_world_of w')
-text_at_events boot w v w' xs text messages ending wanted all going stops is splits =
-    let far : Behind text xs v messages ending = reached boot w v xs text messages ending all is splits in
-    let taken : ReadsNext far.rest (input w') w'.held (got.Request stops.0) =
-    at_known (λ bytes. ReadsNext bytes (input w') w'.held (got.Request stops.0)) (input v) stops.1.next far.rest
-    far.input_is in
-    let next : GoesOn taken.0 (stops.0 ∷ []) far.goes_on.more ending =
-    splits_after far.rest taken.0 (stops.0 ∷ []) far.goes_on.more ending (taken.0, taken.1, refl)
-    far.goes_on.rest_splits in
-    let are : messages ≡ requests_of xs ++ stops.0 ∷ next.more =
-    far.goes_on.messages_are ∙ ap (λ ms. requests_of xs ++ ms) next.messages_are in
-    record {
-      exchanges = xs;
-      requests_are = sym (ap answered are
-          ∙ answered_events (requests_of xs) stops.0 next.more wanted going stops.2);
-      left = far.rest;
-      begins = far.begins;
-      gate = subst (λ g. Between (history_of xs) w.gate g) (sym stops.3.gate) all.gate;
-      handles = subst (λ told. HandlesAll boot w.clock xs told) (sym stops.3.clock) all.handles;
-      end_is = sym (ap (λ ms. end_due ms ending) are
-          ∙ due_events (requests_of xs) stops.0 next.more wanted ending going stops.2);
-      awaited = stops.0.expects;
-      leave_is = TellsLeave-message taken.1;
-      written = appends_twice w.sink.held v.sink.held w'.sink.held (printed_replies boot xs)
-          (leave_if stops.0.expects ++ []) all.written (leave_alone v w' stops.0.expects stops.4);
-    }
+text_at_events boot w v w' xs text messages ending wanted serves stops is splits =
+    text_at_last boot w v w' xs stops.0 text messages ending (end.Events wanted) serves
+    (next_together boot (Some wanted) v w' w' stops.0 [] stops.1
+    (subst (λ s. Appends v.sink.held w'.sink.held
+    (leave_of stops.0.request ++ unless_begun s (printed stops.0.reply boot stops.0.request)))
+    (sym stops.1.begun) (leave_alone v w' stops.0.request.expects stops.2)) (none_together boot w'))
+    (λ left. ends_events stops.0 left ending wanted stops.1.begun) (λ rest. refl) refl is splits
 
 -- a link did what its input asks, or ended by a fault
 pub link_text : (boot : ℕ) (w w' : LinkWorld) (ends : LinkEnd) (text : List ℕ) (messages : List Request) (ending : Ending)
@@ -288,7 +251,7 @@ link_text boot w w' ends text messages ending s is splits = by ends s.stops wher
   whole : Together boot w s.exchanges s.reached
   whole = subst (λ xs. Together boot w xs s.reached) (append-nil s.exchanges) all
 
-  going : AreGoing (requests_of s.exchanges)
+  going : AreGoing s.exchanges
   going = served_going boot w s.reached s.exchanges s.serves
 
   by : (ends : LinkEnd) → ((ends ≡ end.Ended) × Turns boot turn.Final s.reached w') ⊎ Stops boot ends s.reached w'
@@ -327,7 +290,7 @@ link_text boot w w' ends text messages ending s is splits = by ends s.stops wher
       )
   by (end.Events wanted) (inl (same, final)) = cc
   by (end.Events wanted) (inr stops) = inr (
-      text_at_events boot w s.reached w' s.exchanges text messages ending wanted whole going stops is splits
+      text_at_events boot w s.reached w' s.exchanges text messages ending wanted s.serves stops is splits
       )
   by end.ReadFault stops = inl tt
   by end.WriteFault stops = inl tt

@@ -1,12 +1,15 @@
 -- A link: its requests are taken one after the other, each comes to its reply at a gate, and then the link ends for one
 -- reason. The boot word is that of the ids of operations.
-use Rattle.std.specs.Prelude.{◌≡◌, ◌≢◌, ◌≤◌, ◌⊎◌, ◌++◌, ℕ, List, [], ◌∷◌, Bool, true, false, length, Some, None}
+use Rattle.std.specs.Prelude.{◌≡◌, ◌≢◌, ◌≤◌, ◌⊎◌, ◌++◌, ℕ, List, [], ◌∷◌, Bool, true, false, length, Option, Some, None}
+use Rattle.std.specs.Prelude.{Result, Ok}
 use Rattle.http_heads.specs.declared.request.HeadFault.{HeadFault}
 use Rattle.http_heads.specs.declared.request.Request.{Request}
 use Rattle.http_front.specs.Clocks.{Readings}
 use Rattle.http_front.specs.Held.{most_held}
 use Rattle.http_front.specs.declared.read.Got.{Got}
 use Rattle.http_front.specs.declared.read.Got.TheVariants as got
+use Rattle.records.specs.declared.commands.Command.{Command}
+use Rattle.records.specs.declared.refusals.Refusal.{Refusal}
 use Rattle.records.specs.declared.replies.Reply.{Reply}
 use Rattle.records.specs.declared.replies.Reply.TheVariants as reply
 use Rattle.gates.specs.Gates.{Between, Seen}
@@ -20,7 +23,7 @@ use Rattle.gates.specs.rest_answers.specs.declared.writing.Written.TheVariants a
 use Rattle.rest_routes.specs.Commands.{command_of}
 use Rattle.serve_loop.specs.Leave.{BreaksLeave, BreaksReply, GivesLeave, GivesLeaveAt, leave_of}
 use Rattle.serve_loop.specs.Replying.{Handles, Reaches}
-use Rattle.serve_loop.specs.Subscriptions.{subscription_of}
+use Rattle.serve_loop.specs.Subscriptions.{asks_of, begins, is_refusal, looked_for, subscription_of}
 use Rattle.serve_loop.specs.declared.subscriptions.Subscription.{Subscription}
 use Rattle.serve_loop.specs.declared.link.LinkEnd.{LinkEnd}
 use Rattle.serve_loop.specs.declared.link.LinkEnd.TheVariants as end
@@ -57,12 +60,17 @@ pub record KeepsGate (world later : LinkWorld) : Type 0 where
   pub gate : later.gate ≡ world.gate
   pub clock : later.clock ≡ world.clock
 
--- The next request was taken, subscribes to no events, and came to its reply.
-pub record CarriesOut (boot : ℕ) (world later : LinkWorld) (exchange : Exchange) : Type 0 where
+-- The next request was taken, and what it asks for at the gate came to its reply, after which this session begins, or
+-- none.
+pub record ComesTo (boot : ℕ) (session : Option Subscription) (world later : LinkWorld) (exchange : Exchange) : Type 0 where
   pub asked : Asks world later (got.Request exchange.request)
-  pub plain : subscription_of exchange.request ≡ None
+  pub begun : begins exchange.request exchange.reply ≡ session
   pub gate : Between exchange.history world.gate later.gate
-  pub handles : Handles (command_of exchange.request boot) world.clock exchange.history exchange.reply later.clock
+  pub handles : Handles (asks_of exchange.request boot) world.clock exchange.history exchange.reply later.clock
+
+-- The next request was taken, and came to a reply that is to be written.
+abbrev pub CarriesOut : ℕ → LinkWorld → LinkWorld → Exchange → Type 0
+CarriesOut boot world later exchange = ComesTo boot None world later exchange
 
 -- The next request was taken, after leave where its client waits for it, and came to its reply, which was written whole.
 pub record Serves (boot : ℕ) (world later : LinkWorld) (exchange : Exchange) : Type 0 where
@@ -75,8 +83,8 @@ pub record Serves (boot : ℕ) (world later : LinkWorld) (exchange : Exchange) :
 -- What stands next where a link ends before another request was answered whole, and what was done of it: nothing after
 -- the end of the source and at a failed read; its reply at a malformed place; a part of a reply or of leave where a
 -- write failed; where memory was refused, no reply is written, after a request was carried out, before, or before any
--- was read; and at a request that subscribes to events, nothing was done of it. Leave was given before, where it was
--- awaited.
+-- was read; and at a request after which a session of events begins, only its project was asked for. Leave was given
+-- before, where it was awaited.
 abbrev pub Stops : ℕ → LinkEnd → LinkWorld → LinkWorld → Type 0
 Stops boot end.Ended world later = Asks world later got.End × KeepsGate world later × (later.sink ≡ world.sink)
 Stops boot end.Cut world later = (count : ℕ) × Asks world later (got.Cut count) × KeepsGate world later
@@ -99,9 +107,8 @@ Stops boot end.NoMemory world later =
     × (exchange.reply ≢ reply.NoMemory) × GivesLeave exchange.request.expects world.sink later.sink)
     ⊎ ((request : Request) × Asks world later (got.Request request) × KeepsGate world later
     × GivesLeave request.expects world.sink later.sink)
-Stops boot (end.Events wanted) world later = (request : Request) × Asks world later (got.Request request)
-    × (subscription_of request ≡ Some wanted) × KeepsGate world later
-    × GivesLeave request.expects world.sink later.sink
+Stops boot (end.Events wanted) world later = (exchange : Exchange) × ComesTo boot (Some wanted) world later exchange
+    × GivesLeave exchange.request.expects world.sink later.sink
 
 -- one turn of a link: the next request was answered, or the link ends
 abbrev pub Turns : ℕ → Turn → LinkWorld → LinkWorld → Type 0
@@ -152,16 +159,27 @@ end_after ended.Whole fault = end.Malformed fault
 end_after ended.WriteFault fault = end.WriteFault
 end_after ended.NoMemory fault = end.NoMemory
 
--- a request that subscribes to no events was answered, and so the link goes on
-pub record Replies (boot : ℕ) (request : Request) (next : Turn) (sink sink' : Outlet) (gate gate' : Seen)
-    (clock clock' : Readings) : Type 0 where
-  pub reply : Reply
+-- this reply to a request was written, whole or not, and so the link goes on
+pub record WritesReply (boot : ℕ) (request : Request) (reply : Reply) (next : Turn) (sink sink' : Outlet) : Type 0 where
   pub answered : PrintedReply
   pub how : Written
-  pub reaches : Reaches (command_of request boot) gate gate' clock clock' reply
   pub text : HasText answered reply boot request
   pub writes : WritesAnswer how answered request sink sink'
   pub next_is : next ≡ turn_after how request.last
+
+-- what a request asks for was answered, and so the link goes on
+pub record Replies (asks : Result Command Refusal) (boot : ℕ) (request : Request) (next : Turn) (sink sink' : Outlet)
+    (gate gate' : Seen) (clock clock' : Readings) : Type 0 where
+  pub reply : Reply
+  pub reaches : Reaches asks gate gate' clock clock' reply
+  pub written : WritesReply boot request reply next sink sink'
+
+-- The project of a subscription was asked for, and so its session begins, or the refusal was answered.
+abbrev pub Looks : ℕ → Subscription → Request → Turn → Outlet → Outlet → Seen → Seen → Readings → Readings → Type 0
+Looks boot wanted request next sink sink' gate gate' clock clock' =
+    (a_reply : Reply) × Reaches (Ok (looked_for wanted)) gate gate' clock clock' a_reply
+    × (((is_refusal a_reply ≡ true) × WritesReply boot request a_reply next sink sink')
+    ⊎ ((is_refusal a_reply ≡ false) × (next ≡ turn.Stop (end.Events wanted)) × (sink' ≡ sink)))
 
 -- what is seen of a sink, of a gate and of a clock is as it was
 pub record Untouched (sink sink' : Outlet) (gate gate' : Seen) (clock clock' : Readings) : Type 0 where
@@ -169,13 +187,14 @@ pub record Untouched (sink sink' : Outlet) (gate gate' : Seen) (clock clock' : R
   pub gate_is : gate' ≡ gate
   pub clock_is : clock' ≡ clock
 
--- A request was answered where it subscribes to no events; it stops the link where it does, and where memory was
--- refused, and nothing was done of it.
+-- A request was answered where it subscribes to no events; where it does, its project was asked for; and it stops the
+-- link where memory was refused, and nothing was done of it.
 abbrev pub Meets : ℕ → Request → Turn → Outlet → Outlet → Seen → Seen → Readings → Readings → Type 0
 Meets boot request next sink sink' gate gate' clock clock' =
-    ((subscription_of request ≡ None) × Replies boot request next sink sink' gate gate' clock clock')
-    ⊎ ((wanted : Subscription) × (next ≡ turn.Stop (end.Events wanted)) × (subscription_of request ≡ Some wanted)
-    × Untouched sink sink' gate gate' clock clock')
+    ((subscription_of request ≡ None)
+    × Replies (command_of request boot) boot request next sink sink' gate gate' clock clock')
+    ⊎ ((wanted : Subscription) × (subscription_of request ≡ Some wanted)
+    × Looks boot wanted request next sink sink' gate gate' clock clock')
     ⊎ ((next ≡ turn.Stop end.NoMemory) × Untouched sink sink' gate gate' clock clock')
 
 -- What follows on an answer of `read_request`: its request is answered, or stops the link; a malformed place is

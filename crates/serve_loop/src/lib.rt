@@ -16,6 +16,7 @@ mod log;
 mod looking;
 mod reply;
 mod session;
+mod subscribing;
 mod subscription_laws;
 mod subscriptions;
 mod wait;

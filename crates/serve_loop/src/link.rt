@@ -7,7 +7,9 @@ ghost use Rattle.gates.specs.rest_answers.specs.Links.{inlet, outlet};
 ghost use Rattle.gates.specs.rest_answers.specs.Writing.{RefusesPlace};
 ghost use Rattle.gates.specs.Gates.{Between, seen};
 ghost use Rattle.gates.specs.History.{Item};
-ghost use Rattle.serve_loop.specs.Serving.{Follows, Meets, Replies, Serving, ServingFrom, Turns, end_after};
+ghost use Rattle.rest_routes.specs.Commands.{command_of};
+ghost use Rattle.serve_loop.specs.Serving.{Follows, Looks, Meets, Replies, Serving, ServingFrom, Turns, WritesReply};
+ghost use Rattle.serve_loop.specs.Serving.{end_after};
 ghost use Rattle.serve_loop.specs.Serving.{link_world, turn_after};
 ghost use Rattle.serve_loop.specs.Texts.{IsFault, ServesText, reply_world};
 ghost use Rattle.serve_loop.specs.declared.link.LinkEnd.TheVariants as end;
@@ -15,9 +17,11 @@ ghost use Rattle.serve_loop.specs.declared.link.LinkEnd.TheVariants as end;
 use crate::leave::next_message;
 use crate::log::{Log, code_of, rule_in, tell_malformed, tell_subscribed};
 use crate::reply::reply_to;
+use crate::subscribing::{is_refusal, look_for};
 use crate::subscriptions::{Subscription, subscription_of};
 use gates::{Gate, Written, answer_for, write_answer, write_refusal};
 use http_front::{Buffer, Clock, Got, HeadFault, Request, Sink, SinkFailed, Source};
+use records::Reply;
 use rest_routes::Router;
 use size_values::NoMemory;
 use std::alloc::Global;
@@ -39,7 +43,7 @@ pub enum LinkEnd {
     WriteFault,
     /// Memory was refused outside a request.
     NoMemory,
-    /// A request subscribes to events. It was not answered.
+    /// A request subscribes to events of a project that there is. It was not answered.
     Events(Subscription),
 }
 
@@ -77,6 +81,27 @@ fn end_after(written: Written, fault: HeadFault) -> LinkEnd
     }
 }
 
+/// Writes the reply to a request, and tells of it.
+fn write_reply<K: Sink, O: Log>(
+    alloc: Global,
+    sink: &mut K,
+    request: &Request,
+    reply: Reply,
+    boot: u64,
+    log: &mut O,
+) -> Turn
+    ensures { WritesReply boot request.now reply result (outlet K.held K.failures sink.old)
+        (outlet K.held K.failures sink.new) }
+{
+    let rule = rule_in(&reply);
+    let answered = answer_for(alloc, &reply, boot, request);
+    drop(reply);
+    let written = write_answer(sink, &answered, request);
+    log.answered(Some(request), code_of(&answered, request, written), rule);
+    drop(answered);
+    turn_after(written, request.last)
+}
+
 /// Answers a request that subscribes to no events.
 fn answer_request<T: Wait, G: Gate, K: Sink, C: Clock, O: Log>(
     rt: &T,
@@ -89,22 +114,44 @@ fn answer_request<T: Wait, G: Gate, K: Sink, C: Clock, O: Log>(
     boot: u64,
     log: &mut O,
 ) -> Turn
-    ensures { Replies boot request.now result (outlet K.held K.failures sink.old)
+    ensures { Replies (command_of request.now boot) boot request.now result (outlet K.held K.failures sink.old)
         (outlet K.held K.failures sink.new) (seen G.contents G.turned G.idled gate.old)
         (seen G.contents G.turned G.idled gate.new) (C.readings clock.old) (C.readings clock.new) }
 {
     log.came();
     let reply = reply_to(rt, alloc, router, gate, clock, request, boot);
-    let rule = rule_in(&reply);
-    let answered = answer_for(alloc, &reply, boot, request);
-    drop(reply);
-    let written = write_answer(sink, &answered, request);
-    log.answered(Some(request), code_of(&answered, request, written), rule);
-    drop(answered);
-    turn_after(written, request.last)
+    write_reply(alloc, sink, request, reply, boot, log)
 }
 
-/// A turn of a link at a request: it subscribes to events, or is answered.
+/// Asks for the project of a subscription. Its session begins, or the refusal is answered.
+fn subscribe<T: Wait, G: Gate, K: Sink, C: Clock, O: Log>(
+    rt: &T,
+    alloc: Global,
+    gate: &mut G,
+    sink: &mut K,
+    clock: &mut C,
+    request: &Request,
+    wanted: Subscription,
+    boot: u64,
+    log: &mut O,
+) -> Turn
+    ensures { Looks boot wanted request.now result (outlet K.held K.failures sink.old)
+        (outlet K.held K.failures sink.new) (seen G.contents G.turned G.idled gate.old)
+        (seen G.contents G.turned G.idled gate.new) (C.readings clock.old) (C.readings clock.new) }
+{
+    log.came();
+    let reply = look_for(rt, alloc, gate, clock, &wanted);
+    if is_refusal(&reply) {
+        drop(wanted);
+        write_reply(alloc, sink, request, reply, boot, log)
+    } else {
+        drop(reply);
+        tell_subscribed(log, request);
+        Turn::Stop(LinkEnd::Events(wanted))
+    }
+}
+
+/// A turn of a link at a request: its session of events begins, or it is answered.
 fn serve_request<T: Wait, G: Gate, K: Sink, C: Clock, O: Log>(
     rt: &T,
     alloc: Global,
@@ -121,10 +168,7 @@ fn serve_request<T: Wait, G: Gate, K: Sink, C: Clock, O: Log>(
         (seen G.contents G.turned G.idled gate.new) (C.readings clock.old) (C.readings clock.new) }
 {
     match subscription_of(alloc, request) {
-        Ok(Some(subscription)) => {
-            tell_subscribed(log, request);
-            Turn::Stop(LinkEnd::Events(subscription))
-        }
+        Ok(Some(wanted)) => { subscribe(rt, alloc, gate, sink, clock, request, wanted, boot, log) }
         Ok(None) => answer_request(rt, alloc, router, gate, sink, clock, request, boot, log),
         Err(NoMemory) => Turn::Stop(LinkEnd::NoMemory),
     }
@@ -283,11 +327,12 @@ fn serve_from_empty<T: Wait, G: Gate, S: Source, K: Sink, C: Clock, O: Log>(
 }
 
 /// Answers the requests of a connection one after the other, each at the gate, and writes their
-/// replies (HTTP/1.1, RFC 9112, section 9), until one subscribes to events. There is no limit to
-/// their number. A request asks for its command once, and a wait is looked at, and the gate
-/// idles once after each look that shows its operation live: until it has ended, until the clock is
-/// at the deadline, or until it idled a million times for the whole time of an idle. The boot word
-/// is that of the ids of operations. The log is told of each request once it is answered.
+/// replies (HTTP/1.1, RFC 9112, section 9), until one subscribes to events. That one asks for its
+/// project first, and is answered as any other where it is refused. There is no limit to their
+/// number. A request asks for its command once, and a wait is looked at, and the gate idles once
+/// after each look that shows its operation live: until it has ended, until the clock is at the
+/// deadline, or until it idled a million times for the whole time of an idle. The boot word is that
+/// of the ids of operations. The log is told of each request once it is answered.
 pub fn serve_link<T: Wait, G: Gate, S: Source, K: Sink, C: Clock, O: Log>(
     rt: &T,
     alloc: Global,

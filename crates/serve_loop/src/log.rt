@@ -103,7 +103,6 @@ fn code_at(alloc: Global, fault: HeadFault) -> Option<u16> {
 
 /// Tells of a request that subscribes to events.
 pub(crate) fn tell_subscribed<O: Log>(log: &mut O, request: &Request) {
-    log.came();
     log.answered(Some(request), Some(SWITCHING), None);
 }
 

@@ -15,7 +15,7 @@ use std::alloc::Global;
 use std::sync::Wait;
 
 /// Asks for a command. What a wait needs later is taken beforehand.
-fn carry_out<T: Wait, G: Gate, C: Clock>(
+pub(crate) fn carry_out<T: Wait, G: Gate, C: Clock>(
     rt: &T,
     alloc: Global,
     gate: &mut G,

@@ -51,6 +51,13 @@ const CUT_REPLIES: &str =
 const SUBSCRIBED: &str =
     "POST /1.0/projects HTTP/1.1\r\nHost: localhost\r\nContent-Length: 14\r\n\r\n{\"name\":\"lab\"}GET /1.0/events HTTP/1.1\r\nHost: localhost\r\nUpgrade: websocket\r\nConnection: Upgrade\r\nSec-WebSocket-Version: 13\r\nSec-WebSocket-Key: dGhlIHNhbXBsZSBub25jZQ==\r\n\r\nGET /1.0 HTTP/1.1\r\nHost: localhost\r\n\r\n";
 
+/// A subscription to events of a project that is not there, which is refused, and then a request.
+const NOWHERE: &str =
+    "GET /1.0/events?project=lab HTTP/1.1\r\nHost: localhost\r\nUpgrade: websocket\r\nConnection: Upgrade\r\nSec-WebSocket-Version: 13\r\nSec-WebSocket-Key: dGhlIHNhbXBsZSBub25jZQ==\r\n\r\nPOST /1.0/projects HTTP/1.1\r\nHost: localhost\r\nContent-Length: 14\r\n\r\n{\"name\":\"lab\"}";
+
+const NOWHERE_REPLIES: &str =
+    "HTTP/1.1 404 Not Found\r\nContent-Type: application/json\r\nContent-Length: 103\r\n\r\n{\"error\":\"project is missing\",\"error_code\":404,\"metadata\":{\"project\":\"lab\",\"rule\":\"N1\"},\"type\":\"error\"}HTTP/1.1 200 OK\r\nContent-Type: application/json\r\nContent-Length: 66\r\n\r\n{\"metadata\":{},\"status\":\"Success\",\"status_code\":200,\"type\":\"sync\"}";
+
 const LAST: &str =
     "POST /1.0/projects HTTP/1.1\r\nHost: localhost\r\nConnection: close\r\nContent-Length: 14\r\n\r\n{\"name\":\"lab\"}POST /1.0/projects HTTP/1.1\r\nHost: localhost\r\nContent-Length: 14\r\n\r\n{\"name\":\"lab\"}";
 
@@ -78,6 +85,7 @@ const LINKS: &[(&str, &str, &str)] = &[
     (FILLED, "ended", FILLED_REPLIES),
     (MALFORMED, "malformed", MALFORMED_REPLIES),
     (SUBSCRIBED, "events", CUT_REPLIES),
+    (NOWHERE, "ended", NOWHERE_REPLIES),
     (CUT, "cut", CUT_REPLIES),
     (LAST, "ended", LAST_REPLIES),
     ("", "ended", ""),

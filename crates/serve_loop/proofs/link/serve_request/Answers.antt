@@ -6,10 +6,9 @@ returns-in-Ok-None g c = inl (sym c.in-Ok-None.ensures ∙ c.in-Ok-None.field-0-
 
 pub returns-in-Ok-Some : goal.returns-in-Ok-Some
 returns-in-Ok-Some g c = inr (inl (
-  c.in-Ok-Some.subscription,
-  refl,
+  c.in-Ok-Some.wanted,
   sym c.in-Ok-Some.ensures ∙ c.in-Ok-Some.field-0-is,
-  record { sink_is = refl; gate_is = refl; clock_is = refl },
+  c.subscribe.ensures,
 ))
 
 pub returns-in-Err : goal.returns-in-Err
