@@ -134,7 +134,7 @@ def save(what, tables):
     for name, seen in what.items():
         kept.setdefault(name, {}).update(seen)
     kept["when"], kept["processors"] = time.strftime("%Y-%m-%d"), os.cpu_count()
-    FIGURES.write_text(json.dumps(kept, indent=1, sort_keys=True) + "\n")
+    FIGURES.write_text(json.dumps(kept, indent=1) + "\n")
     page = PAGE.read_text()
     for name, table in tables.items():
         page = put_between(page, name, table(kept[name]))
