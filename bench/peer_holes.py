@@ -125,7 +125,7 @@ def project_patch(server):
 
 
 def notice_of_a_refusal(server):
-    """a refused PUT of a project, and what listeners are told"""
+    """a refused PUT of a project, and what listeners get"""
     add_project(server, "told", {"limits.cpu": "4"})
     create(server, "told", "i", {"limits.cpu": "4"})
     listener = Listener(server, "?project=told&type=lifecycle")
@@ -136,11 +136,11 @@ def notice_of_a_refusal(server):
     listener.close()
     if end.is_well:
         raise Wrong("the limit was lowered below the use")
-    return "project-updated" in told, f"{end.status}; listeners are told {', '.join(told) or 'nothing'}"
+    return "project-updated" in told, f"{end.status}; listeners get {', '.join(told) or 'nothing'}"
 
 
 class Creator(threading.Thread):
-    """Creates instances one after the other until the server is gone, and notes which of them it was told to be done."""
+    """Creates instances one after the other until the server is gone, and notes which of them were answered as done."""
 
     def __init__(self, server, number):
         super().__init__()
@@ -326,7 +326,7 @@ def same_etag(server):
                                  {"If-Match": read.etag or "x"}) for each in range(8)])
         well += sum(end.is_well for end in ends)
         there += sum(key.startswith("user.k") for key in rows(server, f"/1.0/projects/{lab}")["config"])
-    text = f"{well} of 40 are told 200, and {there} of these changes are there"
+    text = f"{well} of 40 are answered 200, and {there} of these changes are there"
     return (well > there, text) if has_etag else (None, f"ETag and `If-Match` are not offered: {text}")
 
 

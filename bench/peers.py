@@ -13,7 +13,7 @@ crates/incusd/out/incusd, or the program that `--program` names; where there is 
 holes are asked. Rows of both lie in files.
 
 `--only WORD` runs those alone whose name has the word. `--save` writes what was seen to bench/peers.json, which docs/PEERS.md and
-bench/pictures.py show, and the two tables into docs/PEERS.md.
+bench/pictures.py show, and the tables into docs/PEERS.md and README.md.
 
 It ends with status 1 where a hole of ours is open, but for those of which the table says that we do not offer what they are about.
 """
@@ -29,6 +29,10 @@ from peer_speed import measure
 
 FIGURES = TOP / "bench/peers.json"
 PAGE = TOP / "docs/PEERS.md"
+README = TOP / "README.md"
+# What README.md shows of the speeds.
+CHOSEN = ("creation of instance 250, five limits", "PUT of a profile that 250 instances use, five limits", "list of 1,000 projects, recursion",
+          "GET /1.0 on 8 connections", "memory with 1,000 instances")
 
 
 def servers(program):
@@ -139,6 +143,8 @@ def save(what, tables):
     for name, table in tables.items():
         page = put_between(page, name, table(kept[name]))
     PAGE.write_text(page)
+    chosen = {server: {name: figures[name] for name in CHOSEN if name in figures} for server, figures in kept.get("speed", {}).items()}
+    README.write_text(put_between(README.read_text(), "figures", speed_table(chosen)))
 
 
 def main():
