@@ -110,7 +110,11 @@ class Server:
         self.process = self.kept = self.log = None
 
     def __enter__(self):
-        self.start()
+        try:
+            self.start()
+        except BaseException:
+            self.__exit__()
+            raise
         return self
 
     def __exit__(self, *_):

@@ -23,9 +23,10 @@ import os
 import sys
 import time
 
-from peer_holes import HOLES
-from peer_servers import TOP, Incus, Ours, Wrong, furnish, say
-from peer_speed import measure
+sys.dont_write_bytecode = True
+from peer_holes import HOLES  # noqa: E402
+from peer_servers import TOP, Incus, Ours, Wrong, furnish, say  # noqa: E402
+from peer_speed import measure  # noqa: E402
 
 FIGURES = TOP / "bench/peers.json"
 PAGE = TOP / "docs/PEERS.md"
@@ -179,4 +180,7 @@ def main():
 
 
 if __name__ == "__main__":
-    sys.exit(main())
+    try:
+        sys.exit(main())
+    except Wrong as error:
+        sys.exit(f"peers.py: {error}")
