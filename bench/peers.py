@@ -88,7 +88,8 @@ def cell_of(found):
 
 def speed_table(seen):
     """The table of speeds: of each server what was measured, and how many times as much processor time Incus takes."""
-    names = list(dict.fromkeys(name for figures in seen.values() for name in figures))
+    names = dict.fromkeys(name for figures in seen.values() for name in figures)
+    names = sorted(names, key=lambda name: not name.startswith("creation"))
     lines = ["| what | Incus 6.0.4 | here | ratio |", "|---|---|---|---|"]
     for name in names:
         pair = [seen.get(server, {}).get(name) for server in ("Incus", "ours")]
