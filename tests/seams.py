@@ -1,5 +1,6 @@
 #!/usr/bin/env python3
-"""Looks at what no contract of the programs says: that their clock goes, and what becomes of incusd where the system has no thread.
+"""Looks at what no contract of the programs says: that their clock goes, and what becomes of incusd where the system has no thread, and where
+its file is another one after the disk failed.
 
     tests/seams.py [--program FILE] [--server FILE] [--only WORD]
 
@@ -11,16 +12,22 @@ The programs are crates/incus_run/out/incus_run and crates/incusd/out/incusd wit
 2. `threads`: a server that may start no thread for a connection answers it 503, with the text of one that serves too many, and closes it;
    once it may, it serves the next one, and a connection that it has goes on meanwhile.
 3. `worker`: a server that may start no thread for its worker ends with status 12, and standard error says why.
+4. `replaced`: a sync fails while another file, also one of rows, has the name of the server's file. The change is refused, the server ends
+   with status 6, and the other file has the rows that it had. The library that lets syncs fail is that of tests/failing_disk.py.
 
 For 2 and 3 the server is run by nobody, as the system bounds no threads of root; run by another user they are skipped, which is told.
 It ends with status 1 where something is otherwise.
 """
 import argparse
 import datetime
+import mmap
 import os
+import re
 import resource
 import shutil
 import socket
+import sqlite3
+import struct
 import subprocess
 import sys
 import tempfile
@@ -179,6 +186,65 @@ def worker(said):
     return "status 12, and why"
 
 
+# ---- a file in the place of the server's
+
+class FailingSyncs:
+    """A library that stands before the C library, and lets syncs fail."""
+
+    def __init__(self, folder):
+        source, library, plans = (Path(folder, name) for name in ("shim.c", "shim.so", "plans"))
+        source.write_text(re.search(r'SHIM = r"""(.*?)"""', (TOP / "tests/failing_disk.py").read_text(), re.S)[1])
+        subprocess.run(["cc", "-O1", "-shared", "-fPIC", "-nostdlib", "-o", library, source], check=True)
+        plans.write_bytes(bytes(24))
+        self.environment = dict(os.environ, LD_PRELOAD=str(library), FAILING_DISK=str(plans), ASAN_OPTIONS="verify_asan_link_order=0")
+        with open(plans, "r+b") as file:
+            self.map = mmap.mmap(file.fileno(), 24)
+
+    def fail_next(self):
+        struct.pack_into("3i", self.map, 12, 0, 1, 5)
+
+
+def loaded(program):
+    """The words that start a program with a library before the C library."""
+    if b"/lib64/ld-linux" in Path(program).read_bytes()[:4096]:
+        return [program]
+    text = (TOP / "tests/failing_disk.py").read_text()
+    return [*re.findall(r'"([^"]+)"', re.search(r"LOADER = \[(.*?)\]", text)[1]), program]
+
+
+def projects_in(file):
+    with sqlite3.connect(f"file:{file}?mode=ro", uri=True) as base:
+        return {key for (key,) in base.execute("SELECT key FROM records WHERE kind = 1")}
+
+
+def replaced(said):
+    with tempfile.TemporaryDirectory() as folder:
+        disk, file, port = FailingSyncs(folder), Path(folder, "rows.db"), free_port()
+        words = [*loaded(said.server), "--port", str(port), "--connections", "1", "--db", str(file)]
+        process = subprocess.Popen(words, stdin=subprocess.DEVNULL, stderr=subprocess.PIPE, env=disk.environment)
+        try:
+            until = time.monotonic() + PATIENCE
+            while not listens(port):
+                need(process.poll() is None and time.monotonic() < until, "the server doesn't listen")
+                time.sleep(0.01)
+            with socket.create_connection(("127.0.0.1", port), timeout=PATIENCE) as link:
+                need(ask(link, "POST", "/1.0/projects", {"name": "early"})[0] == 200, "the first change")
+                for name in Path(folder).glob("rows.db*"):
+                    shutil.copy(name, f"{name}.other")
+                for name in list(Path(folder).glob("*.other")):
+                    os.rename(name, str(name).removesuffix(".other"))
+                disk.fail_next()
+                status, _ = ask(link, "POST", "/1.0/projects", {"name": "late"})
+                need(status == 503, f"the change is answered {status}")
+            status, told = process.wait(PATIENCE), process.stderr.read().decode()
+            need(status == 6 and "can't be opened again" in told, f"status {status}: {told}")
+        finally:
+            process.kill()
+            process.wait()
+        need(projects_in(file) == {"default", "early"}, f"the other file has {projects_in(file)}")
+    return "503, status 6, and the other file has its rows"
+
+
 def main():
     words = argparse.ArgumentParser()
     words.add_argument("--program", default=str(TOP / "crates/incus_run/out/incus_run"))
@@ -186,7 +252,7 @@ def main():
     words.add_argument("--only", default="")
     said = words.parse_args()
     wrong = 0
-    for name, check in {"clock": clock, "threads": threads, "worker": worker}.items():
+    for name, check in {"clock": clock, "threads": threads, "worker": worker, "replaced": replaced}.items():
         if said.only not in name:
             continue
         try:
