@@ -10,8 +10,8 @@ use Rattle.object_views.specs.Limited.{limited_lines}
 use Rattle.object_views.proofs.Limited.{pools-shown}
 use Rattle.object_views.proofs.usage.add_pools.Goals as goal
 
-pub pool_uses-uses-requires : goal.pool_uses-uses-requires
-pool_uses-uses-requires c =
+pub pool_uses-requires : goal.pool_uses-requires
+pool_uses-requires c =
     subst (Each (λ (l : PoolLimit). l.project ≡ c.view-name.result.now)) (sym c.in_ok-pools.ensures)
     (each-own c.args.project.now c.view-name.result.now (sym c.view-name.ensures.value))
 
