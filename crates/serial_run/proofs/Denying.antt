@@ -3,11 +3,7 @@ use Rattle.std.proofs.Common.{◌≡◌, ◌≢◌, ℕ, List, [], ◌∷◌, Op
 use Rattle.host_model.specs.declared.call.HostCall.{HostCall}
 use Rattle.host_model.specs.declared.report.Report.{Report}
 use Rattle.host_model.specs.declared.report.Report.TheVariants as report
-use Rattle.operations.specs.declared.operation.Operation.{Operation}
-use Rattle.operations.specs.declared.operation.OpFault.{OpFault}
-use Rattle.operations.specs.declared.status.Status.{Status}
-use Rattle.operations.specs.declared.status.Status.TheVariants as status
-use Rattle.operations.specs.OperationTable.{live_at}
+use Rattle.row_machine.specs.Words.{Operation, OpFault, Status, Status as status, live_at}
 use Rattle.records.specs.declared.commands.Command.{Command}
 use Rattle.records.specs.declared.refusals.Refusal.{Refusal}
 use Rattle.records.specs.declared.replies.Reply.TheVariants as reply
@@ -133,5 +129,6 @@ pub granted-well : (s : State) (e : Event) (o : Outcome) (a : Answer) (s' : Stat
     → a ≡ answer.Reply reply.Empty → o ≡ well
 granted-well s e well a s' is granted = refl
 granted-well s e (keeper_failed rise) a s' is granted =
-    absurd (subst (Speaks Denies) is (step_denies s e (keeper_failed rise) tt) granted)
-granted-well s e no_memory a s' is granted = absurd (subst (Speaks Denies) is (step_denies s e no_memory tt) granted)
+    let denies : Denies a = subst (Speaks Denies) is (step_denies s e (keeper_failed rise) tt) in absurd (denies granted)
+granted-well s e no_memory a s' is granted =
+    let denies : Denies a = subst (Speaks Denies) is (step_denies s e no_memory tt) in absurd (denies granted)

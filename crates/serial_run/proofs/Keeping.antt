@@ -45,9 +45,9 @@ some-same e = cc
 -- ---- one event
 
 -- entries that were the records of the rows are so afterwards
-tells_on : {s s' : State} {k k' : Store} → KeepsRecords k.contents s k'.contents s' → k.contents ≡ Some (records_of s)
+tells_on : (s s' : State) (k k' : Store) → KeepsRecords k.contents s k'.contents s' → k.contents ≡ Some (records_of s)
     → k'.contents ≡ Some (records_of s')
-tells_on {s} {s'} {k} {k'} kept told = kept (Some []) told
+tells_on s s' k k' kept told = kept (Some []) told
 
 -- contents that are as before
 stays : (s s' : State) (k k' : Store) → k'.contents ≡ k.contents → k.contents ≡ Some (records_of s)
@@ -76,10 +76,10 @@ keeps_turn : {s s' : State} {k k' : Store} {e : Event} {o : Outcome} {a : Answer
     → Turns s k e o a s' k' → KeepsRecords k.contents s k'.contents s' → k.contents ≡ Some (records_of s)
     → Keeps s k moment o s' k'
 keeps_turn {s} {s'} {k} {k'} {e} {o} {a} moment at turn kept told =
-    let tells : k'.contents ≡ Some (records_of s') = tells_on {s} {s'} {k} {k'} kept told in
+    let tells : k'.contents ≡ Some (records_of s') = tells_on s s' k k' kept told in
     record {
-      event = e;
-      answer = a;
+      came = e;
+      answered = a;
       at = at;
       turn = turn;
       told = told;
@@ -112,7 +112,7 @@ one : {w w' : SerialWorld} {e : Event} {o : Outcome} {a : Answer} (moment : ℕ)
     → Through w ((moment, o) ∷ []) w'
 one {w} {w'} {e} {o} {a} moment at turn kept told = record {
   keeps = (w'.serial.state, w'.store, keeps_turn moment at turn kept told, (refl, refl));
-  told = tells_on {w.serial.state} {w'.serial.state} {w.store} {w'.store} kept told;
+  told = tells_on w.serial.state w'.serial.state w.store w'.store kept told;
 }
 
 -- ---- what was asked for
@@ -122,7 +122,7 @@ unasked_stays : (w w' : SerialWorld) (asked : Result Command Refusal) (o : Outco
     → Carries w asked None o a w' → IsKept w → Through w [] w'
 unasked_stays w w' asked o a h told = record {
   keeps = (by asked o h.is, same_store o h.stored);
-  told = tells_on {w.serial.state} {w'.serial.state} {w.store} {w'.store} h.kept told;
+  told = tells_on w.serial.state w'.serial.state w.store w'.store h.kept told;
 } where
   state_is : {b : Answer} {s s' : State} → Some (and_then b s) ≡ Some (and_then a s') → s' ≡ s
   state_is {b} {s} {s'} is = sym (ap (λ (after : After). after.state) (some-same is))
@@ -145,7 +145,9 @@ carries_keeps : (w w' : SerialWorld) (asked : Result Command Refusal) (moment : 
     → Carries w asked moment o a w' → IsKept w → Through w (asked_at moment o) w'
 carries_keeps w w' asked None o a h told = unasked_stays w w' asked o a h told
 carries_keeps w w' (Ok c) (Some moment) o a h told =
-    one {e = event.Ask c moment} moment refl (record { is = h.is; stored = h.stored }) h.kept told
+    let turn : Turns w.serial.state w.store (event.Ask c moment) o a w'.serial.state w'.store =
+    record { is = h.is; stored = h.stored } in
+    one moment refl turn h.kept told
 carries_keeps w w' (Err refusal) (Some moment) o a h told = let no : ⊥ = never h.is in absurd no where
   never : {x : After} → None ≡ Some x → ⊥
   never e = cc
@@ -153,8 +155,8 @@ carries_keeps w w' (Err refusal) (Some moment) o a h told = let no : ⊥ = never
 -- ---- steps
 
 step_keeps : (w : SerialWorld) (s : Step) (w' : SerialWorld) → Steps w s w' → IsKept w → Through w (step_at s ∷ []) w'
-step_keeps w (took moment) w' t told = one {e = event.Take moment} moment refl t.turn t.kept told
-step_keeps w (reported r moment o) w' t told = one {e = event.Done t.number r moment} moment refl t.turn t.kept told
+step_keeps w (took moment) w' t told = one moment refl t.turn t.kept told
+step_keeps w (reported r moment o) w' t told = one moment refl t.turn t.kept told
 
 steps_keep : (w w' : SerialWorld) (steps : List Step) → StepsTo w steps w' → IsKept w → Through w (map step_at steps) w'
 steps_keep w w' [] same told = subst (Through w []) same (none w told)

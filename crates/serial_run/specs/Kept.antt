@@ -64,14 +64,14 @@ with_or_without no_memory changes entries = entries
 -- among them.
 pub record Keeps (state : State) (store : Store) (moment : ℕ) (outcome : Outcome) (later : State) (store' : Store)
     : Type 0 where
-  pub event : Event
-  pub answer : Answer
-  pub at : moment_of event ≡ Some moment
-  pub turn : Turns state store event outcome answer later store'
+  pub came : Event
+  pub answered : Answer
+  pub at : moment_of came ≡ Some moment
+  pub turn : Turns state store came outcome answered later store'
   pub told : store.contents ≡ Some (records_of state)
   pub tells : store'.contents ≡ Some (records_of later)
-  pub records : records_of later ≡ with_or_without outcome (changes_by state event) (records_of state)
-  pub granted : answer ≡ answer.Reply reply.Empty → outcome ≡ well
+  pub records : records_of later ≡ with_or_without outcome (changes_by state came) (records_of state)
+  pub granted : answered ≡ answer.Reply reply.Empty → outcome ≡ well
 
 -- ---- a run
 
