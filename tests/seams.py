@@ -38,6 +38,7 @@ sys.dont_write_bytecode = True
 from server import PATIENCE, TOP, Reader, Wrong, ask, free_port, listens, need  # noqa: E402
 
 NOBODY = 65534
+HELD = 10  # processes that hold places of threads
 VOLUMES = "/1.0/storage-pools/p0/volumes/custom"
 POOL = ("POST", "/1.0/storage-pools", {"driver": "dir", "name": "p0"})
 
@@ -83,11 +84,11 @@ def look_at_clock(link, what):
 
 
 def clock(said):
+    with Server(said.server) as server, server.connect() as link:
+        look_at_clock(link, "incusd")
     link = Piped(said.program)
     look_at_clock(link, "incus_run")
     link.end()
-    with Server(said.server) as server, server.connect() as link:
-        look_at_clock(link, "incusd")
     return "both programs tell the second of this machine, and three seconds later the later one"
 
 
@@ -105,10 +106,8 @@ class Server:
 
         def become_nobody():
             if threads is not None:
-                resource.setrlimit(resource.RLIMIT_NPROC, (threads, resource.RLIM_INFINITY))
-                os.setgroups([])
-                os.setgid(NOBODY)
-                os.setuid(NOBODY)
+                resource.setrlimit(resource.RLIMIT_NPROC, (threads, resource.getrlimit(resource.RLIMIT_NPROC)[1]))
+                as_nobody()
 
         self.process = subprocess.Popen([program, "--port", str(self.port), *words], stdin=subprocess.DEVNULL, stdout=subprocess.DEVNULL,
                                         stderr=subprocess.PIPE, preexec_fn=become_nobody)
@@ -147,11 +146,27 @@ def of_nobody():
     return count
 
 
+def as_nobody():
+    os.setgroups([])
+    os.setgid(NOBODY)
+    os.setuid(NOBODY)
+
+
 def threads(said):
     if os.getuid() != 0:
         return "skipped, as only root can become nobody"
-    others = of_nobody()
-    with Server(said.server, "--workers", "1", threads=others + 3) as server:
+    # Processes of nobody that hold the places of threads until they are ended.
+    holders = [subprocess.Popen(["sleep", "1000"], preexec_fn=as_nobody) for _ in range(HELD)]
+    try:
+        return threads_beside(said, holders)
+    finally:
+        for holder in holders:
+            holder.kill()
+            holder.wait()
+
+
+def threads_beside(said, holders):
+    with Server(said.server, "--workers", "1", threads=of_nobody() + 3) as server:
         until = time.monotonic() + PATIENCE
         while server.threads() < 2 and time.monotonic() < until:
             time.sleep(0.01)
@@ -163,8 +178,9 @@ def threads(said):
                     status, told = reader.reply()
                     need(status == 503 and told["error"] == "too many connections" and reader.ended(), f"{status}, {told}")
             need(ask(first, "GET", "/1.0")[0] == 200, "the first connection is served no more")
-            _, most = resource.prlimit(server.process.pid, resource.RLIMIT_NPROC)
-            resource.prlimit(server.process.pid, resource.RLIMIT_NPROC, (others + 30, most))
+            for holder in holders:
+                holder.kill()
+                holder.wait()
             with server.connect() as link:
                 need(ask(link, "GET", "/1.0")[0] == 200, "no connection is served once there are threads")
             need(ask(first, "GET", "/1.0", last=True)[0] == 200, "the first connection is served no more")

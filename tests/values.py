@@ -5,7 +5,8 @@
 
 The program is crates/incus_run/out/incus_run without `--program` (`bin/incus_run --prove` makes it). Each value is set by a request of its
 own: in a new profile, with a device for the options of devices, in a new project, or in a volume. Each difference has to be one of
-incus_differences.tsv with the table `value`, which gives the reason, and each of those has to be there still. `--show` prints all.
+incus_differences.tsv with the table `value`, which gives the reason, and each of those has to be there still. One whose reason is `not
+decided` is told each time. `--show` prints all.
 It ends with status 1 where something is otherwise.
 """
 import argparse
@@ -86,6 +87,8 @@ def main():
         reason = reasons.of(("value", f"{row['table']} {row['key']}", ours, row["value"]))
         if said.show:
             print("\t".join((row["table"], row["key"], row["value"], ours, reason or "?")))
+        if reason and reason.startswith("not decided"):
+            print(f"{reason}: {row['table']} {row['key']} = {row['value']!r}: {ours} here")
         if reason is None:
             wrong += 1
             print(f"unexplained: {row['table']} {row['key']} = {row['value']!r}: {ours} here, and {row['incusd']} by incusd")
