@@ -216,7 +216,7 @@ def at_once_raw(server, requests):
 
 
 def order_of_events(server):
-    """the events of 192 creations by 8 clients"""
+    """the events of 384 creations by 16 clients"""
     add_project(server, "events")
     listener = Listener(server, "?project=events&type=operation")
     time.sleep(0.3)
@@ -226,7 +226,7 @@ def order_of_events(server):
             for each in range(24):
                 link.do("POST", "/1.0/instances?project=events", instance(f"i{number}-{each}"))
 
-    threads = [threading.Thread(target=make, args=(number,)) for number in range(8)]
+    threads = [threading.Thread(target=make, args=(number,)) for number in range(16)]
     for thread in threads:
         thread.start()
     for thread in threads:
@@ -241,7 +241,7 @@ def order_of_events(server):
     wrong = sum(list(dict.fromkeys(each)) != due for each in told.values())
     back = sum(later["timestamp"] < earlier["timestamp"] for earlier, later in zip(events, events[1:]))
     numbers = [event.get("number", 0) for event in events]
-    is_open = wrong > 0 or back > 0 or len(told) != 192
+    is_open = wrong > 0 or back > 0 or len(told) != 384
     counts = ", numbers rise" if numbers[0] and numbers == sorted({*numbers}) else ""
     return is_open, f"{wrong} of {len(told)} operations out of order; {back} of {len(events)} events earlier than the one before{counts}"
 

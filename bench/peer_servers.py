@@ -180,7 +180,8 @@ class Server:
     def clock(self):
         """The processor seconds that the program and the children that it waited for have used."""
         fields = Path(f"/proc/{self.process.pid}/stat").read_text().rsplit(")", 1)[1].split()
-        return sum(map(int, fields[11:15])) / TICKS
+        own = time.clock_gettime(~self.process.pid << 3 | 2)  # of the whole process, see clock_getcpuclockid(3)
+        return own + sum(map(int, fields[13:15])) / TICKS
 
     def memory(self):
         """The memory that the program holds, in MB."""

@@ -138,7 +138,8 @@ def put_between(page, name, lines):
 def save(what, tables):
     kept = json.loads(FIGURES.read_text()) if FIGURES.exists() else {}
     for name, seen in what.items():
-        kept.setdefault(name, {}).update(seen)
+        for server, found in seen.items():
+            kept.setdefault(name, {}).setdefault(server, {}).update(found)
     kept["when"], kept["processors"] = time.strftime("%Y-%m-%d"), os.cpu_count()
     FIGURES.write_text(json.dumps(kept, indent=1) + "\n")
     page = PAGE.read_text()

@@ -3,8 +3,8 @@
 
     bench/pictures.py
 
-1. docs/pictures/creations.svg: how long the creation of one instance takes, by the number of instances of its project, from bench/peers.json
-   (`bench/peers.py speed --save`).
+1. docs/pictures/creations.svg: how much processor time the creation of one instance takes, by the number of instances of its project, from
+   bench/peers.json (`bench/peers.py speed --save`).
 2. docs/pictures/request.svg: the way of a request through the groups of crates (docs/ARCHITECTURE.md).
 """
 import json
@@ -68,7 +68,7 @@ def creations_of(figures):
     for name, figure in figures.items():
         count = re.match(r"creation of instance ([\d,]+)", name)
         if count and figure["status"].startswith("2"):
-            found[int(count[1].replace(",", ""))] = figure["wall"]
+            found[int(count[1].replace(",", ""))] = figure["processor"]
     return sorted(found.items())
 
 
@@ -77,7 +77,7 @@ def creations_picture(kept):
     points = [point for each in lines.values() for point in each]
     axes = Axes([count for count, _ in points], [time for _, time in points])
     parts = [text(24, 34, "Creating one instance in a project with five limits", 18, weight="bold"),
-             text(24, 56, "time until the operation has ended, by the number of instances in the project; both axes are logarithmic", 12, GREY)]
+             text(24, 56, "processor time until the operation has ended, by the number of instances in the project; both axes are logarithmic", 12, GREY)]
     time = axes.times[0]
     while time <= axes.times[1]:
         parts += [line(LEFT, axes.y(time), WIDE - RIGHT, axes.y(time)), text(LEFT - 8, axes.y(time) + 4, named_time(time), 11, GREY, "end")]
@@ -87,8 +87,8 @@ def creations_picture(kept):
     parts.append(text((LEFT + WIDE - RIGHT) / 2, HIGH - BELOW + 38, "instances in the project", 12, GREY, "middle"))
     for name, label, color, above in (("Incus", "Incus 6.0.4", THEIRS, -10), ("ours", "incusd, here", OURS, -10)):
         parts += curve(axes, lines[name], label, color, above)
-    parts.append(text(24, HIGH - 18, f"{kept['when']}, {kept['processors']} processors, both over files, the host of ours a model;"
-                      " bench/peers.py speed measures it", 11, GREY))
+    parts.append(text(24, HIGH - 18, f"{kept['when']}, {kept['processors']} processors, both over files; the host of ours is a model that does nothing."
+                      " Measured by: bench/peers.py speed", 11, GREY))
     return page(WIDE, HIGH, "Time of a creation by number of instances", parts)
 
 
