@@ -6,7 +6,7 @@
 The program is crates/incus_run/out/incus_run without `--program` (`bin/incus_run --prove` makes it). `check --db` makes a file; the stock
 SQLite writes entries into it, spelt here and not by the program; and `check --db` has to end with status 7 and with one line on standard
 error that names the first row at fault by its kind and key, and the rule that it breaks; or the first entry that is damaged. Each rule of
-an opening has its cases (N1 to N3, B3, V1 to V5, F1 to F7, L0 to L8, C1, C2), and each kind of row its damages, spelt here and as a run of
+an opening has its cases (N1 to N3, B3, V1 to V5, F1 to F7, L0 to L9, C1, C2), and each kind of row its damages, spelt here and as a run of
 the program left it; files whose rows are good have to open. The file has to keep the entries that it had.
 
 `--only` tries the cases whose description has this word. `--small` leaves out the tables with more rows than there may be of instances,
@@ -187,6 +187,11 @@ LIMITS = [
     above("L6", "limits.processes", "3", instance("lab/box", FULL), instance("lab/cell", FULL)),
     above("L7", "limits.disk", "3MiB", instance("lab/box", named=SIZED), volume("lab/tank/disk", {"size": "2MiB"})),
     above("L8", "limits.networks", "1", network("lab/net0"), network("lab/net1")),
+    ("an instance has no size on a limited pool", [*lab(limits__disk__pool__tank="1GiB"), instance("lab/box")],
+     INSTANCE, "lab/box", "L0"),
+    ("a volume has no size on a limited pool", [*lab(limits__disk__pool__tank="1GiB"), volume("lab/tank/disk")],
+     VOLUME, "lab/tank/disk", "L0"),
+    above("L9", "limits.disk.pool.tank", "3MiB", instance("lab/box", named=SIZED), volume("lab/tank/disk", {"size": "2MiB"})),
     ("L4 of a later project comes before L8 of an earlier one",
      [project("den", OWN | {"limits.networks": "0"}), profile("den/default"), network("den/net0"),
       *lab(limits__cpu="1"), instance("lab/box", FULL)], PROJECT, "lab", "L4"),

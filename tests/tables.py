@@ -85,6 +85,8 @@ def our_options():
     for name, table in TABLES.items():
         for key, form, given, kind in lines_of(text, name, OPTION, "Form"):
             ends = [numbers.get(each.strip(), each.strip().replace("_", "")) for each in given.split(",")] if form == "Count" else []
+            # (a line that ends in `#` stands for each pool, as Incus' page writes it)
+            key = key.removesuffix("#") + "POOL_NAME" if key.endswith("#") else key
             yield (table, key), {
                 "form": form, "for": KINDS[kind] if kind else "", "words": words[given.split("::")[1]] if form == "One" else [],
                 "range": "..".join(ends),

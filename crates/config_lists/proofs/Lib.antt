@@ -1,3 +1,4 @@
+pub mod Joined
 pub mod Keys
 pub mod Lookups
 pub mod Patches

@@ -1,4 +1,4 @@
-ghost use Rattle.std.specs.Prelude.{◌≡◌, ◌≢◌, ◌<◌, [], length, slice_get, is_some, IfOk, OnOk, OnErr};
+ghost use Rattle.std.specs.Prelude.{◌≡◌, ◌++◌, ◌≢◌, ◌<◌, [], length, slice_get, is_some, IfOk, OnOk, OnErr};
 ghost use Rattle.std.specs.Option.{option_copied};
 ghost use Rattle.std.specs.Map.{keys_of, values_of};
 ghost use Rattle.config_lists.specs.Entries.{put, without};
@@ -57,6 +57,16 @@ impl Config {
         ensures { option_copied result ≡ setting self.now key.now }
     {
         match self.settings.get(key) {
+            Some(value) => Some(value.view()),
+            None => None,
+        }
+    }
+
+    /// The value of the key that is `front` with `rest` behind it.
+    pub fn get_joined(&self, front: &str, rest: &str) -> Option<&str>
+        ensures { option_copied result ≡ setting self.now (front.now ++ rest.now) }
+    {
+        match self.settings.get_joined(front, rest) {
             Some(value) => Some(value.view()),
             None => None,
         }

@@ -1,10 +1,13 @@
 ghost use Rattle.std.specs.Prelude.{◌≡◌, ◌<◌, [], ◌∷◌, ◌++◌, length, slice_get, is_some, IfOk, IfErr, OnOk, OnErr};
+ghost use Rattle.std.specs.Cmp.Lexicographic.{slice_cmp};
 ghost use Rattle.std.specs.Option.{option_copied};
+ghost use Rattle.std.specs.Ordering.{nat_cmp};
 ghost use Rattle.std.specs.Map.{keys_of, values_of};
 ghost use Rattle.config_lists.specs.Entries.{value_of, put, without, KeysRise, IsAt, IsGap};
 
 use size_values::{NoMemory, Text};
 use std::alloc::Global;
+use std::cmp::Ordering;
 use std::marker::Model;
 
 /// Values under keys, in the order of the keys. Contracts see the list of keys and values.
@@ -23,6 +26,16 @@ impl<V> Model for Sorted<V> {
     ghost view = { λ s. s.entries.items };
 
     ghost invariant = { λ s. KeysRise s.entries.items };
+}
+
+/// The order of a text and `front` with `rest` behind it.
+fn compare_joined(text: &str, front: &str, rest: &str) -> Ordering
+    ensures { result ≡ slice_cmp nat_cmp text.now (front.now ++ rest.now) }
+{
+    match text.strip_prefix(front) {
+        Some(behind) => behind.cmp(rest),
+        None => text.cmp(front),
+    }
 }
 
 impl<V> Sorted<V> {
@@ -72,6 +85,26 @@ impl<V> Sorted<V> {
         ensures { option_copied result ≡ value_of self.now key.now }
     {
         match self.index_of(key) {
+            Ok(place) => Some(&self.entries[place].1),
+            Err(_) => None,
+        }
+    }
+
+    /// The place of the key that is `front` with `rest` behind it, or else the place that it would take.
+    fn index_of_joined(&self, front: &str, rest: &str) -> Result<usize, usize>
+        ensures found { IfOk result (IsAt self.now (front.now ++ rest.now)) }
+        ensures absent { IfErr result (IsGap self.now (front.now ++ rest.now)) }
+    {
+        self.entries
+            .as_slice()
+            .binary_search_by(|entry| compare_joined(entry.0.view(), front, rest))
+    }
+
+    /// The value of that key, or `None` where the list lacks it. It takes no memory.
+    pub fn get_joined(&self, front: &str, rest: &str) -> Option<&V>
+        ensures { option_copied result ≡ value_of self.now (front.now ++ rest.now) }
+    {
+        match self.index_of_joined(front, rest) {
             Ok(place) => Some(&self.entries[place].1),
             Err(_) => None,
         }

@@ -15,6 +15,8 @@ use Rattle.row_machine.specs.machine.Task.{Task}
 use Rattle.reservations.specs.Holdings.{has_op, granted_more}
 use Rattle.row_machine.specs.machine.State.{State}
 use Rattle.size_values.specs.Amounts.{nothing}
+use Rattle.size_values.specs.PoolParts.{no_part}
+use Rattle.size_values.specs.declared.pool_part.PoolPart.{PoolPart}
 use Rattle.size_values.specs.declared.amounts.Amounts.{Amounts}
 use Rattle.std.specs.Option.{option_map_or}
 use Rattle.row_machine.specs.machine.Operations.{handing_out, one_more_done, undone}
@@ -44,11 +46,15 @@ with_background background state =
 abbrev pub share_in : List Hold → ℕ → Amounts
 share_in held op = option_map_or (λ (hold : Hold). hold.share) (find (has_op op) held) nothing
 
--- the operation that was entered last holds this share of a project from now on
-abbrev pub holding : List ℕ → Amounts → State → State
-holding project share state = record state {
-  held = state.held ++ record { op = state.operations.next - 1; project = project; share = share } ∷ [];
-  books = granted_more share state.books;
+-- the part on a pool of the share that this operation holds
+abbrev pub part_in : List Hold → ℕ → PoolPart
+part_in held op = option_map_or (λ (hold : Hold). hold.part) (find (has_op op) held) no_part
+
+-- the operation that was entered last holds this share of a project from now on, with this part on a pool
+abbrev pub holding : List ℕ → Amounts → PoolPart → State → State
+holding project share on state = record state {
+  held = state.held ++ record { op = state.operations.next - 1; project = project; share = share; part = on } ∷ [];
+  books = granted_more share on state.books;
 }
 
 -- ---- claims

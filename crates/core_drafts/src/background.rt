@@ -9,8 +9,8 @@ ghost use Rattle.operations.specs.declared.operation.Operation.{Operation as Ope
 ghost use Rattle.plain_lists.specs.Edits.{changed_first, dropped};
 ghost use Rattle.reservations.specs.Holdings.{no_books, has_op};
 ghost use Rattle.reservations.specs.Holdings.{granted_more, converted_more, returned_more};
-ghost use Rattle.core_drafts.specs.Background.{before_claim, pending_of, share_in, handed, handed_at, HasCount};
-ghost use Rattle.core_drafts.specs.Background.{HasCountAt};
+ghost use Rattle.core_drafts.specs.Background.{before_claim, pending_of, share_in, part_in, handed, handed_at};
+ghost use Rattle.core_drafts.specs.Background.{HasCount, HasCountAt};
 ghost use Rattle.row_machine.specs.machine.Task.{Task as TaskValue};
 ghost use Rattle.size_values.specs.Amounts.{part};
 ghost use Rattle.size_values.specs.declared.amounts.Part.{Part};
@@ -24,7 +24,7 @@ use operations::{
 use plain_lists::push_reserved;
 use reservations::{Books, Hold, Ledger};
 use row_machine::Task;
-use size_values::{Amounts, NoMemory, Text};
+use size_values::{Amounts, NoMemory, PoolPart, Text};
 use std::alloc::Global;
 use std::marker::Model;
 
@@ -154,18 +154,20 @@ impl Background {
     }
 
     /// The operation that was entered last holds a share of a project from now on. It takes no memory.
-    pub(crate) fn hold(&mut self, project: Text, share: Amounts)
+    pub(crate) fn hold(&mut self, project: Text, share: Amounts, on: PoolPart)
         requires room { 1 ≤ self.old.backing.hold_room }
         requires limit { self.old.operations.next - 1 < 2 ^ 40 }
         requires above { self.old.backing.greatest < self.old.operations.next - 1 }
         requires small { (k : Part) → part k share < 2 ^ 80 }
+        requires small_part { on.disk < 2 ^ 80 }
         ensures held { self.new.held ≡
-            self.old.held ++ record { op = self.old.operations.next - 1; project = project; share = share } ∷ [] }
-        ensures books { self.new.books ≡ granted_more share self.old.books }
+            self.old.held
+            ++ record { op = self.old.operations.next - 1; project = project; share = share; part = on } ∷ [] }
+        ensures books { self.new.books ≡ granted_more share on self.old.books }
         ensures operations { self.new.operations ≡ self.old.operations }
         ensures greatest { self.new.backing.greatest ≡ self.old.operations.next - 1 }
     {
-        self.ledger.hold(self.next - 1, project, share);
+        self.ledger.hold(self.next - 1, project, share, on);
     }
 
     /// A live operation takes another status.
@@ -213,7 +215,7 @@ impl Background {
     pub(crate) fn convert(&mut self, number: u64)
         requires { IsSome (find (has_op number) self.old.held) }
         ensures held { self.new.held ≡ dropped (has_op number) self.old.held }
-        ensures books { self.new.books ≡ converted_more (share_in self.old.held number) self.old.books }
+        ensures books { self.new.books ≡ converted_more (share_in self.old.held number) (part_in self.old.held number) self.old.books }
         ensures operations { self.new.operations ≡ self.old.operations }
         ensures greatest { self.new.backing.greatest ≡ self.old.backing.greatest }
     {
@@ -224,7 +226,7 @@ impl Background {
     pub(crate) fn give_back(&mut self, number: u64)
         requires { IsSome (find (has_op number) self.old.held) }
         ensures held { self.new.held ≡ dropped (has_op number) self.old.held }
-        ensures books { self.new.books ≡ returned_more (share_in self.old.held number) self.old.books }
+        ensures books { self.new.books ≡ returned_more (share_in self.old.held number) (part_in self.old.held number) self.old.books }
         ensures operations { self.new.operations ≡ self.old.operations }
         ensures greatest { self.new.backing.greatest ≡ self.old.backing.greatest }
     {

@@ -24,7 +24,7 @@ use plain_lists::push_reserved;
 use records::{Instance, Row};
 use row_machine::{RowChange, Task};
 use row_readings::{InstancePower, StateRef};
-use size_values::{Amounts, NoMemory, Power, Seq, Text};
+use size_values::{Amounts, NoMemory, PoolPart, Power, Seq, Text};
 use std::alloc::Global;
 use std::marker::Model;
 
@@ -237,16 +237,17 @@ impl Draft {
     }
 
     /// The operation that was entered last holds this share of a project from now on. It takes no memory.
-    pub fn hold(&mut self, project: Text, share: Amounts)
+    pub fn hold(&mut self, project: Text, share: Amounts, on: PoolPart)
         requires room { 1 ≤ self.old.backing.hold_room }
         requires limit { self.old.state.operations.next - 1 < 2 ^ 40 }
         requires above { self.old.backing.greatest < self.old.state.operations.next - 1 }
         requires small { (k : Part) → part k share < 2 ^ 80 }
-        ensures state { self.new.state ≡ holding project share self.old.state }
+        requires small_part { on.disk < 2 ^ 80 }
+        ensures state { self.new.state ≡ holding project share on self.old.state }
         ensures log { self.new.log ≡ self.old.log }
         ensures greatest { self.new.backing.greatest ≡ self.old.state.operations.next - 1 }
     {
-        self.lists.hold(project, share);
+        self.lists.hold(project, share, on);
     }
 
     /// A live operation takes another status, since this moment. It takes no memory.

@@ -31,7 +31,7 @@ use operations::{OpFault, Status};
 use records::{Instance, Network, Pool, Profile, Project, Row, Snapshot, Volume};
 use row_machine::{RowChange, Task};
 use row_readings::{InstancePower, Names, StateRef, place_named};
-use size_values::{Amounts, Boxed, NoMemory, ObjectKind, Power, Text};
+use size_values::{Amounts, Boxed, NoMemory, ObjectKind, PoolPart, Power, Text};
 use std::alloc::Global;
 use std::marker::Model;
 
@@ -279,16 +279,17 @@ impl Lists {
     }
 
     /// The operation that was entered last holds a share from now on. It takes no memory.
-    pub(crate) fn hold(&mut self, project: Text, share: Amounts)
+    pub(crate) fn hold(&mut self, project: Text, share: Amounts, on: PoolPart)
         requires room { 1 ≤ self.old.backing.hold_room }
         requires limit { self.old.state.operations.next - 1 < 2 ^ 40 }
         requires above { self.old.backing.greatest < self.old.state.operations.next - 1 }
         requires small { (k : Part) → part k share < 2 ^ 80 }
-        ensures state { self.new.state ≡ holding project share self.old.state }
+        requires small_part { on.disk < 2 ^ 80 }
+        ensures state { self.new.state ≡ holding project share on self.old.state }
         ensures room { self.new.room ≡ self.old.room }
         ensures greatest { self.new.backing.greatest ≡ self.old.state.operations.next - 1 }
     {
-        self.background.hold(project, share);
+        self.background.hold(project, share, on);
     }
 
     /// A live operation takes another status.

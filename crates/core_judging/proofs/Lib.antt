@@ -1,3 +1,4 @@
 mod After
+mod Limits
 mod NewProfiles
 mod Within

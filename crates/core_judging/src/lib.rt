@@ -9,8 +9,8 @@ mod starting;
 pub use changing::{Before, Ready, commit, judge, prepare, refused_reply, roll_back};
 pub use core_totals::{
     Counted, Shown, Totals, Turned, Waiting, begin, cancel, count, default_profile, entry_changes,
-    first_pending, follow_end, give_back, held_share, is_pending, live_at, queue_event,
-    take_report, told_by,
+    first_pending, follow_end, give_back_held, is_pending, live_at, queue_event, take_report,
+    told_by,
 };
 pub use one_project::OneProject;
 pub use starting::{PreparedStart, commit_start, judge_claim, prepare_start};

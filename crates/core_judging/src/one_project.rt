@@ -1,5 +1,5 @@
 //! Changes of the rows of one project, which are judged in that project alone.
-ghost use Rattle.std.specs.Prelude.{◌≡◌, ◌&&◌, ◌∷◌, [], IfOk, codes, false, not};
+ghost use Rattle.std.specs.Prelude.{◌≡◌, ◌==◌, ◌&&◌, ◌||◌, ◌∷◌, [], IfOk, codes, false, length, not};
 ghost use Rattle.std.specs.List.{before_first, list_all, list_any};
 ghost use Rattle.std.specs.Option.{option_copied, option_map_or};
 ghost use Rattle.std.specs.Str.{bytes_eq};
@@ -14,30 +14,34 @@ ghost use Rattle.core_totals.specs.OneProject.{project_of_all, project_of_key, p
 ghost use Rattle.core_totals.specs.OneProject.{project_removed, project_renamed, project_touched};
 ghost use Rattle.core_totals.specs.OneProject.{project_within, renamed_from, touches_profile};
 ghost use Rattle.plain_lists.specs.Firsts.{first};
+ghost use Rattle.plain_lists.specs.Members.{Each};
 ghost use Rattle.row_machine.specs.machine.Rows.{project_named};
 ghost use Rattle.row_machine.specs.machine.State.{State};
-ghost use Rattle.rules_limits.specs.Limited.{limits_named};
+ghost use Rattle.row_readings.specs.PoolLimits.{own_limits};
+ghost use Rattle.rules_limits.specs.AllProjects.{limits_any};
+ghost use Rattle.rules_limits.specs.Limited.{limits_named, pools_named};
 ghost use Rattle.rules_limits.specs.OneProject.{uses_over};
-ghost use Rattle.core_judging.specs.Before.{Knows, after_change};
+ghost use Rattle.core_judging.specs.Before.{FitsProject, Knows, after_change};
 ghost use Rattle.core_judging.specs.Judged.{project_exceeds, project_forbidden, project_judged, project_lacks_amount};
 
 use project_limits::{Limits, limits_of};
 use records::{Project, Refusal, Row};
 use row_machine::RowChange;
-use row_readings::{StateRef, is_on, project_of_row, rows_of, usage_of};
+use row_readings::{PoolLimits, StateRef, is_on, pool_uses, project_of_row, rows_of, usage_of};
 use rules_limits::{
     InUse, Limited, is_limited_by, limited_named, project_without_amount, uses_exceed,
 };
 use rules_policy::policy_broken_in;
-use size_values::{Amounts, NoMemory, ObjectKind, Or, Text};
+use size_values::{Amounts, NoMemory, ObjectKind, Or, Seq, Text};
 use std::alloc::Global;
 
-/// A project of which changes put and remove rows: its limits after them, if it is there then, and what it used of them
-/// before.
+/// A project of which changes put and remove rows: its limits after them, if it is there then, with the pools that it
+/// limits, and what it used of them before.
 #[derive(Drop)]
 pub struct OneProject {
     pub name: Text,
     pub limits: Option<Limits>,
+    pub pools: PoolLimits,
     pub used: InUse,
 }
 
@@ -267,7 +271,7 @@ fn project_after<'x>(
 }
 
 /// The limits of the project of this name after these changes. They are read here, and nowhere else for changes within
-/// a project.
+/// a project; those on pools below.
 fn limits_after(view: &StateRef<'_>, changes: &[RowChange], name: &str) -> Option<Limits>
     ensures { result ≡ limits_named (applied view.now changes.now).projects name.now }
 {
@@ -277,31 +281,69 @@ fn limits_after(view: &StateRef<'_>, changes: &[RowChange], name: &str) -> Optio
     }
 }
 
-/// What a project uses of its limits.
-fn in_use(alloc: Global, view: &StateRef<'_>, project: &str) -> Result<InUse, NoMemory>
-    ensures { IfOk result (λ used. used ≡ in_use view.now project.now) }
+/// The pools that the project of this name limits after these changes.
+fn pools_after(
+    alloc: Global,
+    view: &StateRef<'_>,
+    changes: &[RowChange],
+    name: &str,
+) -> Result<PoolLimits, NoMemory>
+    ensures { IfOk result (λ pools. pools ≡ pools_named (applied view.now changes.now).projects name.now) }
+{
+    let Some(project) = project_after(view, changes, name) else {
+        return Ok(PoolLimits::none(alloc));
+    };
+    PoolLimits::of(alloc, project)
+}
+
+/// What a project uses of its limits, and of these pools.
+fn in_use(
+    alloc: Global,
+    view: &StateRef<'_>,
+    project: &str,
+    pools: &PoolLimits,
+) -> Result<InUse, NoMemory>
+    requires { Each (λ limit. limit.project ≡ project.now) pools.now }
+    ensures { IfOk result (λ used. used ≡ in_use view.now project.now pools.now) }
 {
     let amounts = usage_of(alloc, view, project)?;
     let networks = rows_of(view.networks, project).len();
-    Ok(InUse { amounts, networks })
+    let pools = pool_uses(alloc, view, project, pools)?;
+    Ok(InUse {
+        amounts,
+        networks,
+        pools,
+    })
 }
 
-/// What the project uses before changes that leave it these limits. Where there is none, nothing is summed.
+/// Whether limits, if they are those of a project, set one, or these on pools do.
+fn set_one(limits: Option<Limits>, pools: &PoolLimits) -> bool
+    ensures { result ≡ (option_map_or limits_any limits false || not (length pools.now == 0)) }
+{
+    is_limited_by(limits) || !pools.view().is_empty()
+}
+
+/// What the project uses before changes that leave it these limits, on these pools too. Where there is none, nothing is
+/// summed.
 fn use_before(
     alloc: Global,
     view: &StateRef<'_>,
     project: &str,
     limits: Option<Limits>,
+    pools: &PoolLimits,
 ) -> Result<InUse, NoMemory>
-    ensures { IfOk result (λ used. (later : State) → limits ≡ limits_named later.projects project.now
-        → Knows project.now used view.now later) }
+    requires { Each (λ limit. limit.project ≡ project.now) pools.now }
+    ensures knows { IfOk result (λ used. (later : State) → limits ≡ limits_named later.projects project.now
+        → pools.now ≡ pools_named later.projects project.now → Knows project.now pools.now used view.now later) }
+    ensures lines { IfOk result (λ used. length used.pools ≡ length pools.now) }
 {
-    if is_limited_by(limits) {
-        return in_use(alloc, view, project);
+    if set_one(limits, pools) {
+        return in_use(alloc, view, project, pools);
     }
     Ok(InUse {
         amounts: Amounts::zero(),
         networks: 0,
+        pools: Seq::new(alloc),
     })
 }
 
@@ -313,14 +355,20 @@ pub(crate) fn project_before(
     project: &str,
 ) -> Result<OneProject, NoMemory>
     ensures name { IfOk result (λ of. of.name ≡ project.now) }
-    ensures limits { IfOk result (λ of. of.limits
-        ≡ limits_named (applied view.now changes.now).projects project.now) }
-    ensures used { IfOk result (λ of. Knows project.now of.used view.now (applied view.now changes.now)) }
+    ensures fits { IfOk result (λ of. FitsProject of (applied view.now changes.now)) }
+    ensures used { IfOk result
+        (λ of. Knows project.now of.pools of.used view.now (applied view.now changes.now)) }
 {
     let limits = limits_after(view, changes, project);
-    let used = use_before(alloc, view, project, limits)?;
+    let pools = pools_after(alloc, view, changes, project)?;
+    let used = use_before(alloc, view, project, limits, &pools)?;
     let name = Text::from_text(alloc, project)?;
-    Ok(OneProject { name, limits, used })
+    Ok(OneProject {
+        name,
+        limits,
+        pools,
+        used,
+    })
 }
 
 // ---- what is judged
@@ -333,29 +381,34 @@ fn policy_broken(alloc: Global, of: &OneProject, after: &StateRef<'_>) -> Result
     policy_broken_in(alloc, after, projects)
 }
 
-/// L1 to L8 of the project. Where it has no limit nothing is summed.
+/// L1 to L9 of the project. Where it has no limit nothing is summed.
 fn limits_broken(
     alloc: Global,
     of: &OneProject,
     after: &StateRef<'_>,
     project: &Limited<'_>,
 ) -> Result<(), Or<Refusal>>
-    ensures { Says result (uses_over of.now.used (in_use after.now of.now.name) project.now) }
+    requires name { project.now.name ≡ of.now.name }
+    requires pools { of.now.pools ≡ own_limits project.now }
+    requires lines { length of.now.used.pools ≡ length of.now.pools }
+    ensures { Says result (uses_over of.now.pools of.now.used (in_use after.now of.now.name of.now.pools) project.now) }
 {
     if !project.has_limits() {
         return Ok(());
     }
-    let used = in_use(alloc, after, of.name.view())?;
-    uses_exceed(alloc, project, &of.used, &used)
+    let used = in_use(alloc, after, of.name.view(), &of.pools)?;
+    uses_exceed(alloc, project, &of.pools, &of.used, &used)
 }
 
-/// L0 to L8 of the project, if it is there.
+/// L0 to L9 of the project, if it is there.
 #[tactic(auto, unfolding(crate::specs::Judged::project_lacks_amount, crate::specs::Judged::project_exceeds))]
 fn limits_judged(alloc: Global, of: &OneProject, after: &StateRef<'_>) -> Result<(), Or<Refusal>>
-    requires { of.now.limits ≡ limits_named after.now.projects of.now.name }
+    requires limits { of.now.limits ≡ limits_named after.now.projects of.now.name }
+    requires pools { of.now.pools ≡ pools_named after.now.projects of.now.name }
+    requires lines { length of.now.used.pools ≡ length of.now.pools }
     ensures { Says result
-        (first (project_lacks_amount of.now.name after.now ∷ project_exceeds of.now.name of.now.used after.now
-        ∷ [])) }
+        (first (project_lacks_amount of.now.name after.now
+        ∷ project_exceeds of.now.name of.now.pools of.now.used after.now ∷ [])) }
 {
     let Some(project) = limited_named(after, of.name.view(), of.limits) else {
         return Ok(());
@@ -370,8 +423,10 @@ pub(crate) fn project_broken(
     of: &OneProject,
     after: &StateRef<'_>,
 ) -> Result<(), Or<Refusal>>
-    requires { of.now.limits ≡ limits_named after.now.projects of.now.name }
-    ensures { Says result (project_judged of.now.name of.now.used after.now) }
+    requires limits { of.now.limits ≡ limits_named after.now.projects of.now.name }
+    requires pools { of.now.pools ≡ pools_named after.now.projects of.now.name }
+    requires lines { length of.now.used.pools ≡ length of.now.pools }
+    ensures { Says result (project_judged of.now.name of.now.pools of.now.used after.now) }
 {
     policy_broken(alloc, of, after)?;
     limits_judged(alloc, of, after)

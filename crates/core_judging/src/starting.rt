@@ -3,6 +3,7 @@
 ghost use Rattle.std.specs.Prelude.{◌≡◌, ◌+◌, ◌-◌, ◌^◌, ◌<◌, ◌≤◌, ◌∷◌, ◌++◌, []};
 ghost use Rattle.std.specs.Prelude.{vec_len, vec_capacity, IfOk, OnOk, option_and_then};
 ghost use Rattle.std.specs.Option.{option_copied};
+ghost use Rattle.core_totals.specs.Alone.{all_beside};
 ghost use Rattle.core_totals.specs.Totals.{AreTotals};
 ghost use Rattle.row_machine.specs.facts.Whole.{IsWhole};
 ghost use Rattle.size_values.specs.Causes.{Says};
@@ -16,11 +17,10 @@ ghost use Rattle.core_drafts.specs.Background.{pending_of, holding};
 ghost use Rattle.size_values.specs.Amounts.{part};
 ghost use Rattle.size_values.specs.declared.amounts.Part.{Part};
 ghost use Rattle.core_drafts.specs.Drafted.{CanClaim};
-ghost use Rattle.row_machine.specs.machine.Claims.{share_of};
+ghost use Rattle.row_readings.specs.Footprints.{share_footprint};
 ghost use Rattle.row_machine.specs.machine.Task.{Task as TaskValue};
 ghost use Rattle.row_machine.specs.machine.Operations.{project_of_task};
 ghost use Rattle.row_machine.specs.shown.Notices.{view_of};
-ghost use Rattle.row_machine.specs.machine.Usage.{usage_of};
 ghost use Rattle.core_judging.specs.Judged.{claim_judged};
 ghost use Rattle.core_totals.specs.core_reports.specs.declared.waiting.Waiting.TheVariants as waiting_of;
 
@@ -32,12 +32,12 @@ use plain_lists::push_reserved;
 use project_limits::Limits;
 use records::{Command, EventBody, OpView, Refusal, Reply, Row, Untold};
 use row_machine::Task;
-use row_readings::{StateRef, kept_at, project_of_row, share_of};
-use rules_limits::{claim_lacks_amount, limited_named, limits_named, share_broken};
+use row_readings::{Footprint, StateRef, kept_at, project_of_row, share_of};
+use rules_limits::{Beside, claim_lacks_amount, limited_named, limits_named, share_broken};
 use rules_policy::{claim_forbidden, snapshot_blocked};
 use rules_settings::claim_settings_broken;
 use rules_tables::{claim_tables_broken, enter_fault, refuse_entry};
-use size_values::{Amounts, NoMemory, Or, Text};
+use size_values::{NoMemory, Or, Text};
 use std::alloc::Global;
 
 /// What the entry of an operation needs besides its work: the limits of the project that its share counts for, if it is
@@ -46,9 +46,9 @@ use std::alloc::Global;
 #[derive(Drop)]
 pub struct PreparedStart {
     pub limits: Option<Limits>,
-    pub used: Amounts,
+    pub used: Beside,
     pub fault: Option<EnterFault>,
-    pub share: Amounts,
+    pub share: Footprint,
     pub project: Text,
     pub shown: OpView,
     pub notice: Untold,
@@ -130,12 +130,13 @@ fn beginning_of(
     requires whole { IsWhole view.now }
     requires totals { AreTotals view.now totals.old }
     ensures limits { IfOk result (λ e. e.limits ≡ limits_named view.now.projects (project_of_task work.now)) }
-    ensures few { IfOk result (λ e. (k : Part) → part k e.used ≤ 2 ^ 127 + 2 ^ 126) }
+    ensures few { IfOk result (λ e. (k : Part) → part k e.used.amounts ≤ 2 ^ 127 + 2 ^ 126) }
+    ensures few_on_pool { IfOk result (λ e. e.used.on_pool ≤ 2 ^ 127 + 2 ^ 126) }
     ensures used { IfOk result (λ e. share_broken view.now.projects (project_of_task work.now) e.used e.share
         ≡ share_broken view.now.projects (project_of_task work.now)
-        (usage_of view.now (project_of_task work.now)) e.share) }
+        (all_beside view.now (project_of_task work.now) e.share.on.pool) e.share) }
     ensures fault { IfOk result (λ e. e.fault ≡ enter_fault view.now.operations) }
-    ensures share { IfOk result (λ e. e.share ≡ share_of view.now work.now) }
+    ensures share { IfOk result (λ e. e.share ≡ share_footprint view.now work.now) }
     ensures project { IfOk result (λ e. e.project ≡ project_of_task work.now) }
     ensures shown { IfOk result (λ e. e.shown ≡ view_of (pending_of view.now.operations.next work.now moment)) }
     ensures notice { IfOk result (λ e. e.notice ≡ record {
@@ -177,12 +178,13 @@ pub fn prepare_start(
     requires settled { draft.old.log ≡ [] }
     ensures limits { IfOk result (λ e. e.limits
         ≡ limits_named draft.old.state.projects (project_of_task work.now)) }
-    ensures few { IfOk result (λ e. (k : Part) → part k e.used ≤ 2 ^ 127 + 2 ^ 126) }
+    ensures few { IfOk result (λ e. (k : Part) → part k e.used.amounts ≤ 2 ^ 127 + 2 ^ 126) }
+    ensures few_on_pool { IfOk result (λ e. e.used.on_pool ≤ 2 ^ 127 + 2 ^ 126) }
     ensures used { IfOk result (λ e. share_broken draft.old.state.projects (project_of_task work.now) e.used e.share
         ≡ share_broken draft.old.state.projects (project_of_task work.now)
-        (usage_of draft.old.state (project_of_task work.now)) e.share) }
+        (all_beside draft.old.state (project_of_task work.now) e.share.on.pool) e.share) }
     ensures fault { IfOk result (λ e. e.fault ≡ enter_fault draft.old.state.operations) }
-    ensures share { IfOk result (λ e. e.share ≡ share_of draft.old.state work.now) }
+    ensures share { IfOk result (λ e. e.share ≡ share_footprint draft.old.state work.now) }
     ensures project { IfOk result (λ e. e.project ≡ project_of_task work.now) }
     ensures shown { IfOk result (λ e. e.shown ≡ view_of (pending_of draft.old.state.operations.next work.now moment)) }
     ensures notice { IfOk result (λ e. e.notice ≡ record {
@@ -220,8 +222,10 @@ fn judge_work(
     work: &Task,
 ) -> Result<(), Or<Refusal>>
     requires limits { beginning.now.limits ≡ limits_named after.now.projects beginning.now.project }
-    requires used { (k : Part) → part k beginning.now.used ≤ 2 ^ 127 + 2 ^ 126 }
-    requires share { (k : Part) → part k beginning.now.share < 2 ^ 80 }
+    requires used { (k : Part) → part k beginning.now.used.amounts ≤ 2 ^ 127 + 2 ^ 126 }
+    requires used_pool { beginning.now.used.on_pool ≤ 2 ^ 127 + 2 ^ 126 }
+    requires share { (k : Part) → part k beginning.now.share.amounts < 2 ^ 80 }
+    requires part { beginning.now.share.on.disk < 2 ^ 80 }
     ensures { Says result (claim_judged command.now after.now beginning.now.fault beginning.now.project
         beginning.now.used beginning.now.share work.now) }
 {
@@ -246,8 +250,10 @@ pub fn judge_claim(
     number: u64,
 ) -> Result<(), Or<Refusal>>
     requires limits { beginning.now.limits ≡ limits_named after.now.projects beginning.now.project }
-    requires used { (k : Part) → part k beginning.now.used ≤ 2 ^ 127 + 2 ^ 126 }
-    requires share { (k : Part) → part k beginning.now.share < 2 ^ 80 }
+    requires used { (k : Part) → part k beginning.now.used.amounts ≤ 2 ^ 127 + 2 ^ 126 }
+    requires used_pool { beginning.now.used.on_pool ≤ 2 ^ 127 + 2 ^ 126 }
+    requires share { (k : Part) → part k beginning.now.share.amounts < 2 ^ 80 }
+    requires part { beginning.now.share.on.disk < 2 ^ 80 }
     ensures { Says result (option_and_then
         (λ (o : OperationValue TaskValue). claim_judged command.now after.now beginning.now.fault beginning.now.project
         beginning.now.used beginning.now.share o.work) (kept_at after.now.operations number)) }
@@ -264,16 +270,19 @@ pub fn commit_start(draft: &mut Draft, untold: &mut Vec<Waiting>, beginning: Pre
     requires hold_room { 1 ≤ draft.old.backing.hold_room }
     requires limit { draft.old.state.operations.next - 1 < 2 ^ 40 }
     requires above { draft.old.backing.greatest < draft.old.state.operations.next - 1 }
-    requires small { (k : Part) → part k beginning.share < 2 ^ 80 }
+    requires small { (k : Part) → part k beginning.share.amounts < 2 ^ 80 }
+    requires small_part { beginning.share.on.disk < 2 ^ 80 }
     requires room { vec_len untold.old < vec_capacity untold.old }
-    ensures state { draft.new.state ≡ holding beginning.project beginning.share draft.old.state }
+    ensures state { draft.new.state
+        ≡ holding beginning.project beginning.share.amounts beginning.share.on draft.old.state }
     ensures log { draft.new.log ≡ [] }
     ensures greatest { draft.new.backing.greatest ≡ draft.old.state.operations.next - 1 }
     ensures untold { untold.new.items ≡ untold.old.items ++ waiting_of.Whole beginning.notice ∷ [] }
     ensures capacity { vec_capacity untold.old ≤ vec_capacity untold.new }
     ensures reply { result ≡ reply.Started beginning.shown }
 {
-    draft.hold(beginning.project, beginning.share);
+    let share = beginning.share;
+    draft.hold(beginning.project, share.amounts, share.on);
     draft.keep_changes();
     push_reserved(untold, Waiting::Whole(beginning.notice));
     Reply::Started(beginning.shown)

@@ -27,7 +27,6 @@ use Rattle.records.specs.declared.replies.Reply.{Reply}
 use Rattle.records.specs.declared.replies.Reply.TheVariants as reply
 use Rattle.core_drafts.specs.Background.{pending_of, holding}
 use Rattle.core_drafts.proofs.Entering.{claim-held}
-use Rattle.size_values.specs.declared.amounts.Amounts.{Amounts}
 use Rattle.row_machine.specs.declared.events.Answer.TheVariants as answer
 use Rattle.row_machine.specs.declared.events.Event.TheVariants as event
 use Rattle.row_machine.specs.facts.Whole.{IsWhole}
@@ -41,14 +40,16 @@ use Rattle.row_machine.specs.machine.State.{State}
 use Rattle.row_machine.specs.machine.Step.{well, after_command, step}
 use Rattle.row_machine.specs.machine.TableRules.{enter_refusal, entry_broken, tables_broken}
 use Rattle.row_machine.specs.machine.Task.{Task}
-use Rattle.row_machine.specs.machine.Claims.{share_of}
+use Rattle.row_machine.specs.machine.Claims.{share_of, part_of_share}
 use Rattle.row_machine.specs.machine.Operations.{claiming, entered, project_of_task}
 use Rattle.row_machine.specs.shown.Notices.{telling, view_of}
-use Rattle.row_machine.specs.machine.Usage.{usage_of}
+use Rattle.row_readings.specs.Footprints.{share_footprint}
+use Rattle.row_readings.specs.declared.amounts.Footprint.{Footprint}
 use Rattle.machine_laws.proofs.Cases.{IsAccepted}
 use Rattle.rules_limits.specs.OneProject.{claim_lacks_amount, share_broken}
+use Rattle.rules_limits.specs.declared.one_operation.Beside.{Beside}
 use Rattle.rules_policy.specs.Alone.{claim_forbidden}
-use Rattle.core_judging.specs.core_totals.specs.Alone.{IsJudgedAlone}
+use Rattle.core_judging.specs.core_totals.specs.Alone.{all_beside, beside_share, IsJudgedAlone}
 use Rattle.core_judging.specs.core_totals.proofs.Alone.{judged-alone}
 use Rattle.core_rows.specs.Asked.{IsAsked, answered, changes_at_once, changes_of, unless_refused}
 use Rattle.core_judging.specs.core_reports.specs.Waiting.{IsSilent}
@@ -129,11 +130,11 @@ module _ (s : State) (task : Task) (moment : ℕ) (alone : IsJudgedAlone s task 
   policy-alone = alone.policy
 
 -- those that are left are judged over the state with the claim
-left-claim : (s : State) (c : Command) (moment : ℕ) (task : Task) (used : Amounts) → IsWhole s → IsToStart s c moment task
-    → share_broken s.projects (project_of_task task) used (share_of s task)
-    ≡ share_broken s.projects (project_of_task task) (usage_of s (project_of_task task)) (share_of s task)
+left-claim : (s : State) (c : Command) (moment : ℕ) (task : Task) (used : Beside) → IsWhole s → IsToStart s c moment task
+    → share_broken s.projects (project_of_task task) used (share_footprint s task)
+    ≡ share_broken s.projects (project_of_task task) (beside_share s task) (share_footprint s task)
     → broken s c moment
-    ≡ claim_judged c (claiming s task moment) (enter_fault s.operations) (project_of_task task) used (share_of s task) task
+    ≡ claim_judged c (claiming s task moment) (enter_fault s.operations) (project_of_task task) used (share_footprint s task) task
 unfolding broken claim_judged entry_broken
 left-claim s c moment task used whole d serves =
     let later = claiming s task moment in
@@ -156,17 +157,17 @@ left-claim s c moment task used whole d serves =
     ∙ ap (λ o. first (settings ∷ claim_forbidden later task ∷ blocked ∷ claim_lacks_amount later (project_of_task task) task ∷ o ∷ entry ∷ tables ∷ [])) (alone.limits ∙ sym serves)
 
 -- what is judged of a kept operation
-abbrev pub judged_at : Command → State → Option EnterFault → List ℕ → Amounts → Amounts → ℕ → Option Refusal
+abbrev pub judged_at : Command → State → Option EnterFault → List ℕ → Beside → Footprint → ℕ → Option Refusal
 judged_at c later fault project used share number =
     option_and_then (λ (o : Operation Task). claim_judged c later fault project used share o.work) (kept_at later.operations number)
 
 -- what was judged is what the command breaks
 pub judged-claim : (s : State) (c : Command) (moment : ℕ) (task : Task) (later : State) (fault : Option EnterFault) (number : ℕ)
-    (project : List ℕ) (used share : Amounts)
+    (project : List ℕ) (used : Beside) (share : Footprint)
     → IsWhole s → IsToStart s c moment task → later ≡ claiming s task moment → fault ≡ enter_fault s.operations
-    → number ≡ s.operations.next → project ≡ project_of_task task → share ≡ share_of s task
+    → number ≡ s.operations.next → project ≡ project_of_task task → share ≡ share_footprint s task
     → share_broken s.projects (project_of_task task) used share
-    ≡ share_broken s.projects (project_of_task task) (usage_of s (project_of_task task)) share
+    ≡ share_broken s.projects (project_of_task task) (all_beside s (project_of_task task) share.on.pool) share
     → judged_at c later fault project used share number ≡ broken s c moment
 judged-claim s c moment task later fault number project used share whole d made same numbered counted held serves =
     let claimed = claiming s task moment in
@@ -176,10 +177,10 @@ judged-claim s c moment task later fault number project used share whole d made 
     ∙ ap (judged_at c claimed (enter_fault s.operations) project used share) numbered
     ∙ ap (λ p. judged_at c claimed (enter_fault s.operations) p used share s.operations.next) counted
     ∙ ap (λ a. judged_at c claimed (enter_fault s.operations) of used a s.operations.next) held
-    ∙ ap (option_and_then (λ (o : Operation Task). claim_judged c claimed (enter_fault s.operations) of used (share_of s task) o.work))
+    ∙ ap (option_and_then (λ (o : Operation Task). claim_judged c claimed (enter_fault s.operations) of used (share_footprint s task) o.work))
     (found-entered s task moment whole.operations.kept)
     ∙ sym (left-claim s c moment task used whole d
-    (subst (λ a. share_broken s.projects of used a ≡ share_broken s.projects of (usage_of s of) a) held serves))
+    (subst (λ (a : Footprint). share_broken s.projects of used a ≡ share_broken s.projects of (all_beside s of a.on.pool) a) held serves))
 
 -- ---- what becomes of the command
 
@@ -241,14 +242,14 @@ start-made s c moment task s' untold r store h made tells replies = record {
 -- ---- the state afterwards
 
 -- a claim whose share is held is an entry
-pub entered-from : (s : State) (task : Task) (moment : ℕ) (later claimed : State) (project : List ℕ) (share : Amounts)
-    → claimed ≡ claiming s task moment → project ≡ project_of_task task → share ≡ share_of s task → later ≡ holding project share claimed
+pub entered-from : (s : State) (task : Task) (moment : ℕ) (later claimed : State) (project : List ℕ) (share : Footprint)
+    → claimed ≡ claiming s task moment → project ≡ project_of_task task → share ≡ share_footprint s task → later ≡ holding project share.amounts share.on claimed
     → later ≡ entered s task moment
 entered-from s task moment later claimed project share made counts holds is =
     is
-    ∙ ap (λ p. holding p share claimed) counts
-    ∙ ap (λ a. holding (project_of_task task) a claimed) holds
-    ∙ ap (holding (project_of_task task) (share_of s task)) made
+    ∙ ap (λ p. holding p share.amounts share.on claimed) counts
+    ∙ ap (λ (a : Footprint). holding (project_of_task task) a.amounts a.on claimed) holds
+    ∙ ap (holding (project_of_task task) (share_of s task) (part_of_share s task)) made
     ∙ claim-held s task moment
 
 -- its number is one

@@ -7,9 +7,7 @@ ghost use Rattle.core_rows.specs.Counted.{counted_out};
 ghost use Rattle.core_judging.specs.core_reports.specs.Turns.{shown_at};
 
 use core_drafts::Draft;
-use core_judging::{
-    Totals, Waiting, cancel, give_back, held_share, is_pending, live_at, queue_event,
-};
+use core_judging::{Totals, Waiting, cancel, give_back_held, is_pending, live_at, queue_event};
 use operations::Status;
 use row_readings::StateRef;
 
@@ -63,7 +61,7 @@ pub(crate) fn count_out(totals: &mut Totals, view: &StateRef<'_>, number: u64)
     match live_at(view, number) {
         Some(operation) => {
             if is_pending(operation.status) {
-                give_back(totals, &operation.work, &held_share(view, number));
+                give_back_held(totals, view, number, &operation.work);
             }
         }
         None => {}

@@ -202,7 +202,11 @@ impl Estate {
             drop(beginning);
             return roll_back(&mut self.draft, why);
         }
-        self.totals.grow(beginning.project.view(), &beginning.share);
+        self.totals.grow(
+            beginning.project.view(),
+            &beginning.share.amounts,
+            &beginning.share.on,
+        );
         commit_start(&mut self.draft, &mut self.untold, beginning)
     }
 

@@ -2,6 +2,7 @@ pub mod Own
 pub mod Named
 mod Counts
 mod Policy
+pub mod Pools
 pub mod Limits
 pub mod Alone
 mod Asked

@@ -17,6 +17,7 @@ use Rattle.plain_lists.proofs.Searches.{find-none}
 use Rattle.operations.specs.declared.operation.Operation.{Operation}
 use Rattle.project_limits.specs.Admission.{limit_on, key_of, parts}
 use Rattle.project_limits.specs.Limits.{limits_of}
+use Rattle.project_limits.specs.Pools.{limited_pools, pool_limit}
 use Rattle.records.specs.declared.refusals.Refusal.{Refusal}
 use Rattle.records.specs.declared.rows.Project.{Project}
 use Rattle.records.specs.declared.rows.Profile.{Profile}
@@ -24,15 +25,15 @@ use Rattle.records.specs.declared.rows.Volume.{Volume}
 use Rattle.records.specs.declared.rows.Instance.{Instance}
 use Rattle.row_machine.specs.machine.Claims.{of_live, claimed_instance, claimed_volume, judged_instances, judged_volumes, project_of_row}
 use Rattle.row_machine.specs.machine.Holders.{names_profile}
-use Rattle.row_machine.specs.machine.LimitRules.{instance_without_amount, volume_lacks_amount, claim_without_amount, project_without_amount, counts_broken, limit_exceeded, part_exceeds, networks_exceed, limits_broken}
+use Rattle.row_machine.specs.machine.LimitRules.{instance_without_amount, volume_lacks_amount, claim_without_amount, project_without_amount, counts_broken, limit_exceeded, part_exceeds, networks_exceed, pool_limit_exceeded, pools_exceed, limits_broken}
 use Rattle.row_machine.specs.machine.PolicyRules.{forbids_profile, forbids_instance, project_forbids, policy_broken}
 use Rattle.row_machine.specs.machine.Rows.{is_profile, profile_named, profile_names, project_named, texts_before, with_profile}
 use Rattle.row_machine.specs.machine.State.{State}
 use Rattle.row_machine.specs.machine.Task.{Task}
-use Rattle.row_machine.specs.machine.Usage.{Load, loads, used, networks_of, amount_for, instance_load, volume_load, claim_load}
+use Rattle.row_machine.specs.machine.Usage.{Load, loads, used, used_on, networks_of, amount_for, on_pool_for, instance_load, volume_load, claim_load}
 use Rattle.row_machine.specs.facts.Whole.{IsWhole, IsClean, IsWithin}
 use Rattle.machine_laws.proofs.DefaultsProjects.{distinct_projects}
-use Rattle.machine_laws.proofs.Expansions.{IsAlike, amounts-alike, without_amount-alike, forbids-alike}
+use Rattle.machine_laws.proofs.Expansions.{IsAlike, counts-alike, without_amount-alike, forbids-alike}
 use Rattle.machine_laws.proofs.ExpansionsApart.{fails-by}
 use Rattle.machine_laws.proofs.ExpansionsAtOnce.{put-alike}
 use Rattle.machine_laws.proofs.ExpansionsNamed.{named-there, row-judged}
@@ -152,9 +153,9 @@ module _ (s : State) (r : Profile) (h : IsWhole s) (free : profile_named s.profi
   -- each live operation has the share that it had
   shares : (o : Operation Task) → Mem o s.operations.live → IsShareAlike s (with_new s r) o.work
   shares o m = record {
-    claimed = λ i is. amounts-alike (alike i (claim-judged s o i m is));
+    claimed = λ i is. counts-alike (alike i (claim-judged s o i m is));
     replaced = refl;
-    old = λ i is. amounts-alike (alike i (row-judged s i (replaced-row s o.work i is)));
+    old = λ i is. counts-alike (alike i (row-judged s i (replaced-row s o.work i is)));
   }
 
   -- so that all that counts is as it was
@@ -163,20 +164,23 @@ module _ (s : State) (r : Profile) (h : IsWhole s) (free : profile_named s.profi
   loads-alike =
       ap (λ xs. xs ++ map volume_load s.volumes ++ of_live (claim_load (with_new s r)) s)
       (map-alike (instance_load (with_new s r)) (instance_load s) s.instances (record {
-        at = λ i m. ap (λ a. record { project = i.project; amounts = a }) (amounts-alike (alike i (row-judged s i m)));
+        at = λ i m. let e = counts-alike (alike i (row-judged s i m)) in λ j. record { project = i.project; amounts = e.amounts j; on = e.part j };
       }))
       ∙ ap (λ xs. map (instance_load s) s.instances ++ map volume_load s.volumes ++ xs)
       (read-alike (λ (o : Operation Task). claim_load (with_new s r) o.work) (λ (o : Operation Task). claim_load s o.work) s.operations.live (record {
-        at = λ o m. ap (λ a. option_map (λ new. record { project = project_of_row new; amounts = a }) o.work.claim) (share-alike o.work (shares o m));
+        at = λ o m.
+            let e = share-alike o.work (shares o m) in
+            λ j. option_map (λ new. record { project = project_of_row new; amounts = e.share j; on = e.part j }) o.work.claim;
       }))
 
   limits-one : limits_broken s (with_new s r) ≡ None
-  unfolding limits_broken part_exceeds networks_exceed networks_of
+  unfolding limits_broken part_exceeds networks_exceed networks_of pools_exceed
   limits-one = ap exceeded loads-alike ∙ within-limits s h.limits where
     exceeded : List Load → Option Refusal
     exceeded later = first
         (first_of (λ k. first_of (λ (p : Project). limit_exceeded p (key_of k) (limit_on k (limits_of p.config)) (used s p.name k) (sum_by (amount_for p.name k) later)) s.projects) parts
         ∷ first_of (networks_exceed s s) s.projects
+        ∷ first_of (λ (p : Project). first_of (λ pool. pool_limit_exceeded p.name pool (pool_limit p.config pool) (used_on s p.name pool) (sum_by (on_pool_for p.name pool) later)) (limited_pools p.config)) s.projects
         ∷ [])
 
 pub profiles-alone : NewProfilesAreJudgedAlone

@@ -30,32 +30,36 @@ use Rattle.records.specs.declared.rows.Row.TheVariants as row
 use Rattle.row_machine.specs.declared.changes.RowChange.{RowChange}
 use Rattle.row_machine.specs.facts.Whole.{IsWhole, IsWithin, IsClean}
 use Rattle.row_machine.specs.machine.Changes.{applied}
-use Rattle.row_machine.specs.machine.Claims.{of_live, amounts_of_instance, claimed_instance, claimed_volume, judged_instances, judged_volumes, project_of_row, replaced_instance, share_of}
+use Rattle.row_machine.specs.machine.Claims.{of_live, amounts_of_instance, claimed_instance, claimed_volume, judged_instances, judged_volumes, part_of_instance, part_of_share, project_of_row, replaced_instance, share_of}
 use Rattle.row_machine.specs.machine.Homes.{home_of, is_on}
-use Rattle.row_machine.specs.machine.LimitRules.{instance_without_amount, volume_lacks_amount, claim_without_amount, project_without_amount, counts_broken, limit_exceeded, part_exceeds, networks_exceed, limits_broken}
+use Rattle.row_machine.specs.machine.LimitRules.{instance_without_amount, volume_lacks_amount, claim_without_amount, project_without_amount, counts_broken, limit_exceeded, part_exceeds, networks_exceed, pools_exceed, limits_broken}
 use Rattle.row_machine.specs.machine.PolicyRules.{forbids_profile, forbids_instance, project_forbids, policy_broken}
 use Rattle.row_machine.specs.machine.Rows.{default_name, is_project, is_profile, is_instance, project_named, project_names, profile_named, instance_named}
 use Rattle.row_machine.specs.machine.State.{State}
 use Rattle.row_machine.specs.machine.Task.{Task}
-use Rattle.row_machine.specs.machine.Usage.{Load, amount_for, used, usage_of, networks_of}
-use Rattle.machine_laws.proofs.Expansions.{home_in, IsAlike, amounts-alike, without_amount-alike, forbids-alike}
+use Rattle.row_machine.specs.machine.Usage.{Load, used, usage_of, networks_of}
+use Rattle.machine_laws.proofs.Expansions.{home_in, IsAlike, counts-alike, without_amount-alike, forbids-alike}
 use Rattle.machine_laws.proofs.ExpansionsApart.{fails-by, home-either, profile-so}
 use Rattle.machine_laws.proofs.ExpansionsNamed.{claim-is, judged-home, row-judged}
 use Rattle.machine_laws.proofs.Found.{instance-found}
+use Rattle.machine_laws.proofs.LimitsEnds.{instance-same}
 use Rattle.machine_laws.proofs.LimitsForbidden.{rule_numbers}
+use Rattle.machine_laws.proofs.LimitsSums.{instance_part, volume_part, claim_part, used-split}
+use Rattle.machine_laws.proofs.Measures.{Measure, measured, used_by, by_part, by_pool}
 use Rattle.machine_laws.proofs.NamesSuccess.{Mem-filter}
 use Rattle.machine_laws.proofs.SharesAlike.{IsShareAlike, share-alike}
 use Rattle.machine_laws.proofs.SharesApart.{instance-so, replaces-or_not}
 use Rattle.machine_laws.proofs.SharesAtOnce.{claim-judged}
-use Rattle.rules_limits.specs.OneProject.{network_use_over, of_project, uses_over}
+use Rattle.rules_limits.specs.OneProject.{network_use_over, of_project}
 use Rattle.rules_limits.specs.Sums.{line_over}
+use Rattle.rules_limits.proofs.PoolTables.{project-pools}
 use Rattle.row_readings.proofs.Ranges.{filter-filter, sum_by-filter}
 use Rattle.rules_policy.specs.Within.{policy_broken_in}
-use Rattle.row_readings.specs.Counted.{instance_part, volume_part, claim_part}
-use Rattle.row_readings.proofs.Parts.{part-of_usage, used-parts}
-use Rattle.core_totals.specs.OneProject.{are_profiles_shared, is_within, in_use, project_of_all, project_touched, projects_of}
+use Rattle.row_readings.proofs.Parts.{part-of_usage}
+use Rattle.core_totals.specs.OneProject.{are_profiles_shared, is_within, project_of_all, project_touched, projects_of, use_over}
 use Rattle.core_totals.specs.OneProject.{IsProjectJudgedAlone}
 use Rattle.core_totals.proofs.Limits.{unexceeded}
+use Rattle.core_totals.proofs.Pools.{pools-same}
 use Rattle.core_totals.proofs.Others.{AreBeside, Mem-back, Mem-passes, beside-itself, changes-beside, find-filter, is_other}
 use Rattle.core_totals.proofs.Named.{distinct-applied, named-first, named-list}
 use Rattle.core_totals.proofs.Own.{claimed, last-of, listed-none, or-none}
@@ -85,10 +89,17 @@ pub other-not : (b : Bool) → not b ≡ true → b ≡ false
 other-not false is = refl
 other-not true is = absurd (true≢false (sym is))
 
+-- of three rules each is as another one
+three-or : {R : Type 0} {a b c x y z : Option R} → a ≡ x → b ≡ y → c ≡ z → option_or a (option_or b (option_or c None)) ≡ option_or x (option_or y (option_or z None))
+three-or first second third = ap₂ option_or first (ap₂ option_or second (ap (λ o. option_or o None) third))
+
 -- the first limit that one of these projects exceeds
 abbrev pub exceeding : State → State → List Project → Option Refusal
 exceeding s t projects = first
-    (first_of (λ k. first_of (part_exceeds s t k) projects) parts ∷ first_of (networks_exceed s t) projects ∷ [])
+    (first_of (λ k. first_of (part_exceeds s t k) projects) parts
+    ∷ first_of (networks_exceed s t) projects
+    ∷ first_of (pools_exceed s t) projects
+    ∷ [])
 
 -- where no project shares the profiles of `default`, each other one has its own
 own-home : (s : State) (name : List ℕ) → are_profiles_shared s ≡ false → bytes_eq name default_name ≡ false
@@ -324,10 +335,10 @@ module _ (s t : State) (shared : Bool) (such : List ℕ → Bool) (h : IsWhole s
 
     same-share : IsShareAlike s t o.work
     same-share = record {
-      claimed = λ i is. amounts-alike (alike i (claim-judged s o i m is)
+      claimed = λ i is. counts-alike (alike i (claim-judged s o i m is)
           (ap such ((h.references.operations.at o m).claim_project (row.Instance i) (claim-is o.work i is)) ∙ other));
       replaced = replaced-alike;
-      old = λ i is. amounts-alike (alike i (row-judged s i (replaced-there i is)) (ap such (replaced-own i is) ∙ other));
+      old = λ i is. counts-alike (alike i (row-judged s i (replaced-there i is)) (ap such (replaced-own i is) ∙ other));
     }
 
   -- ---- usage
@@ -336,23 +347,23 @@ module _ (s t : State) (shared : Bool) (such : List ℕ → Bool) (h : IsWhole s
   differs : (name q : List ℕ) → such name ≡ true → such q ≡ false → bytes_eq name q ≡ false
   differs name q is other = fails-by (bytes_eq name q) (λ one. true≢false (sym is ∙ ap such (same name q one) ∙ other))
 
-  module _ (q : List ℕ) (k : Part) (other : such q ≡ false) where
+  module _ (q : List ℕ) (k : Measure) (other : such q ≡ false) where
     -- what is of the projects of the changes adds nothing
     adds-nothing : (name : List ℕ) (n : ℕ) → is_other such name ≡ false → cond (bytes_eq name q) n 0 ≡ 0
     adds-nothing name n is = ap (λ c. cond c n 0) (differs name q (not-other (such name) is) other)
 
     instances-add : sum_by (instance_part t q k) t.instances ≡ sum_by (instance_part s q k) s.instances
     instances-add =
-        sym (sum_by-filter (instance_part t q k) test t.instances (λ i is. adds-nothing i.project (part k (amounts_of_instance t i)) is))
+        sym (sum_by-filter (instance_part t q k) test t.instances (λ i is. adds-nothing i.project (k (amounts_of_instance t i) (part_of_instance t i)) is))
         ∙ ap (sum_by (instance_part t q k)) b.instances
         ∙ sum_by-same (instance_part t q k) (instance_part s q k) (filter test s.instances) (record { at = counts })
-        ∙ sum_by-filter (instance_part s q k) test s.instances (λ i is. adds-nothing i.project (part k (amounts_of_instance s i)) is) where
+        ∙ sum_by-filter (instance_part s q k) test s.instances (λ i is. adds-nothing i.project (k (amounts_of_instance s i) (part_of_instance s i)) is) where
           test : Instance → Bool
           test i = is_other such i.project
 
           counts : (i : Instance) → Mem i (filter test s.instances) → instance_part t q k i ≡ instance_part s q k i
-          counts i m = ap (λ a. cond (bytes_eq i.project q) (part k a) 0)
-              (amounts-alike (alike i (row-judged s i (Mem-filter test i s.instances m)) (other-not (such i.project) (Mem-passes test i s.instances m))))
+          counts i m = instance-same s t q k i
+              (counts-alike (alike i (row-judged s i (Mem-filter test i s.instances m)) (other-not (such i.project) (Mem-passes test i s.instances m))))
 
     volumes-add : sum_by (volume_part q k) t.volumes ≡ sum_by (volume_part q k) s.volumes
     volumes-add =
@@ -362,31 +373,31 @@ module _ (s t : State) (shared : Bool) (such : List ℕ → Bool) (h : IsWhole s
           test : Volume → Bool
           test v = is_other such v.project
 
-    claim-adds : (o : Operation Task) → Mem o s.operations.live → claim_part t q k o.work ≡ claim_part s q k o.work
+    claim-adds : (o : Operation Task) → Mem o s.operations.live → claim_part t q k o ≡ claim_part s q k o
     claim-adds o m = at o.work.claim refl where
       load : State → Row → Load
-      load u new = record { project = project_of_row new; amounts = share_of u o.work }
+      load u new = record { project = project_of_row new; amounts = share_of u o.work; on = part_of_share u o.work }
 
       own : (new : Row) → o.work.claim ≡ Some new → (c : Bool) → bytes_eq (project_of_row new) q ≡ c
-          → cond c (part k (share_of t o.work)) 0 ≡ cond c (part k (share_of s o.work)) 0
-      own new is true of = ap (part k) (share-alike o.work (same-share o m
-          (ap such (sym ((h.references.operations.at o m).claim_project new is) ∙ same (project_of_row new) q of) ∙ other)))
+          → cond c (k (share_of t o.work) (part_of_share t o.work)) 0 ≡ cond c (k (share_of s o.work) (part_of_share s o.work)) 0
+      own new is true of =
+          let e = share-alike o.work (same-share o m
+          (ap such (sym ((h.references.operations.at o m).claim_project new is) ∙ same (project_of_row new) q of) ∙ other)) in
+          ap₂ k e.share e.part
       own new is false of = refl
 
       at : (claim : Option Row) → o.work.claim ≡ claim
-          → option_map_or (amount_for q k) (option_map (load t) claim) 0 ≡ option_map_or (amount_for q k) (option_map (load s) claim) 0
+          → option_map_or (measured q k) (option_map (load t) claim) 0 ≡ option_map_or (measured q k) (option_map (load s) claim) 0
       at None is = refl
       at (Some new) is = own new is (bytes_eq (project_of_row new) q) refl
 
-    claims-add : sum_by (λ (o : Operation Task). claim_part t q k o.work) t.operations.live
-        ≡ sum_by (λ (o : Operation Task). claim_part s q k o.work) s.operations.live
+    claims-add : sum_by (claim_part t q k) t.operations.live ≡ sum_by (claim_part s q k) s.operations.live
     claims-add =
-        ap (λ (ops : OperationTable Task). sum_by (λ (o : Operation Task). claim_part t q k o.work) ops.live) b.operations
-        ∙ sum_by-same (λ (o : Operation Task). claim_part t q k o.work) (λ (o : Operation Task). claim_part s q k o.work) s.operations.live
-        (record { at = claim-adds })
+        ap (λ (ops : OperationTable Task). sum_by (claim_part t q k) ops.live) b.operations
+        ∙ sum_by-same (claim_part t q k) (claim_part s q k) s.operations.live (record { at = claim-adds })
 
-    used-other : used t q k ≡ used s q k
-    used-other = omega (arith, used-parts t q k, used-parts s q k, instances-add, volumes-add, claims-add)
+    used-other : used_by t q k ≡ used_by s q k
+    used-other = omega (arith, used-split t q k, used-split s q k, instances-add, volumes-add, claims-add)
 
   networks-other : (q : List ℕ) → such q ≡ false → networks_of t q ≡ networks_of s q
   unfolding networks_of
@@ -408,7 +419,7 @@ module _ (s t : State) (shared : Bool) (such : List ℕ → Bool) (h : IsWhole s
   part-other : (k : Part) (q : Project) → Mem q t.projects → such q.name ≡ false → part_exceeds s t k q ≡ None
   unfolding part_exceeds
   part-other k q m other =
-      ap (limit_exceeded q (key_of k) (limit_on k (limits_of q.config)) (used s q.name k)) (used-other q.name k other)
+      ap (limit_exceeded q (key_of k) (limit_on k (limits_of q.config)) (used s q.name k)) (used-other q.name (by_part k) other)
       ∙ unexceeded q (key_of k) (limit_on k (limits_of q.config)) (used s q.name k) ((h.limits.limits.at q (project-there q m other)).parts k)
 
   count-other : (q : Project) → Mem q t.projects → such q.name ≡ false → networks_exceed s t q ≡ None
@@ -417,9 +428,12 @@ module _ (s t : State) (shared : Bool) (such : List ℕ → Bool) (h : IsWhole s
       ap (limit_exceeded q limit_key.Networks (limits_of q.config).networks (networks_of s q.name)) (networks-other q.name other)
       ∙ unexceeded q limit_key.Networks (limits_of q.config).networks (networks_of s q.name) (h.limits.limits.at q (project-there q m other)).networks
 
+  pools-other : (q : Project) → Mem q t.projects → such q.name ≡ false → pools_exceed s t q ≡ None
+  pools-other q m other = pools-same s t q (h.limits.limits.at q (project-there q m other)).pools (λ pool. used-other q.name (by_pool pool) other)
+
   pub limits-within : limits_broken s t ≡ exceeding s t those
   unfolding limits_broken
-  limits-within = ap₂ (λ of_parts of_networks. option_or of_parts (option_or of_networks None))
+  limits-within = three-or
       (first_of-same (λ k. first_of (part_exceeds s t k) t.projects) (λ k. first_of (part_exceeds s t k) those) parts
       (record {
         at = λ k n. first_of-passing (λ (q : Project). such q.name) (part_exceeds s t k) (part_exceeds s t k) t.projects
@@ -427,6 +441,8 @@ module _ (s t : State) (shared : Bool) (such : List ℕ → Bool) (h : IsWhole s
       }))
       (first_of-passing (λ (q : Project). such q.name) (networks_exceed s t) (networks_exceed s t) t.projects
       (record { at = count-other }) (λ q own. refl))
+      (first_of-passing (λ (q : Project). such q.name) (pools_exceed s t) (pools_exceed s t) t.projects
+      (record { at = pools-other }) (λ q own. refl))
 
 -- ---- what one project exceeds
 
@@ -442,17 +458,17 @@ module _ (s t : State) (p : List ℕ) where
   count-own q own = ap₂ (limit_exceeded q limit_key.Networks (limits_of q.config).networks)
       (ap (networks_of s) (same q.name p own)) (ap (networks_of t) (same q.name p own))
 
-  pub exceeding-own : Distinct project_names t.projects → exceeding s t (projects_of t p) ≡ of_project (uses_over (in_use s p) (in_use t p)) t.projects p
+  pub exceeding-own : Distinct project_names t.projects → exceeding s t (projects_of t p) ≡ of_project (use_over s t p) t.projects p
   exceeding-own distinct = ap (exceeding s t) (named-list p t.projects distinct) ∙ at (project_named t.projects p) refl where
-    at : (o : Option Project) → project_named t.projects p ≡ o
-        → exceeding s t (option_to_list o) ≡ option_and_then (uses_over (in_use s p) (in_use t p)) o
+    at : (o : Option Project) → project_named t.projects p ≡ o → exceeding s t (option_to_list o) ≡ option_and_then (use_over s t p) o
     at None found = refl
     at (Some q) found =
         let own = (find-some (is_project p) t.projects q found).1 in
-        ap₂ (λ of_parts of_networks. option_or of_parts (option_or of_networks None))
+        three-or
         (first_of-same (λ k. first_of (part_exceeds s t k) (q ∷ [])) (λ k. line_over k (q, (usage_of s p, usage_of t p))) parts
         (record { at = λ k m. or-none (part_exceeds s t k q) ∙ part-own k q own }))
         (or-none (networks_exceed s t q) ∙ count-own q own)
+        (or-none (pools_exceed s t q) ∙ sym (project-pools s t q))
 
 -- ---- changes of one project
 

@@ -14,8 +14,8 @@ use Rattle.plain_lists.proofs.EditLemmas.{dropped-Puts}
 use Rattle.plain_lists.proofs.Readings.{sum_by-same}
 use Rattle.plain_lists.proofs.Searches.{find-some}
 use Rattle.config_lists.proofs.Keys.{same, bytes_eq-itself}
-use Rattle.size_values.specs.Amounts.{part, nothing, excess_of, minus_of}
-use Rattle.size_values.specs.declared.amounts.Amounts.{Amounts}
+use Rattle.size_values.specs.Amounts.{part, nothing, minus_of}
+use Rattle.size_values.specs.PoolParts.{no_part, on_pool}
 use Rattle.size_values.specs.declared.amounts.Part.{Part}
 use Rattle.size_values.proofs.AmountParts.{same-parts, part-excess, part-minus}
 use Rattle.size_values.specs.declared.kinds.Action.TheVariants as action
@@ -26,7 +26,6 @@ use Rattle.operations.specs.declared.operation.Operation.{Operation}
 use Rattle.operations.specs.declared.operation.OpFault.TheVariants as fault
 use Rattle.operations.specs.declared.status.Status.TheVariants as status
 use Rattle.operations.specs.OperationTable.{has_number, live_at}
-use Rattle.records.specs.declared.notices.Untold.{Untold}
 use Rattle.records.specs.declared.rows.Instance.{Instance}
 use Rattle.records.specs.declared.rows.Snapshot.{Snapshot}
 use Rattle.records.specs.declared.rows.Row.{Row}
@@ -38,26 +37,29 @@ use Rattle.row_machine.specs.machine.State.{State}
 use Rattle.row_machine.specs.machine.Rows.{is_instance, instance_named, snapshot_named, instance_names, with_instance, texts_before}
 use Rattle.row_machine.specs.machine.Asked.{snapshots_of}
 use Rattle.row_machine.specs.machine.Changes.{has_key, applied, removal}
-use Rattle.row_machine.specs.machine.Claims.{claimed_instance, replaced_instance, amounts_of, amounts_of_instance, share_of, share_over, project_of_row}
+use Rattle.row_machine.specs.machine.Claims.{claimed_instance, replaced_instance, amounts_of_instance, part_of_instance, share_of, part_of_share, project_of_row}
 use Rattle.row_machine.specs.machine.Deeds.{claim_kind, replaces_target, has_target, target_kind, keeps_name}
 use Rattle.row_machine.specs.shown.Urls.{target_of}
-use Rattle.row_machine.specs.shown.Notices.{telling}
-use Rattle.row_machine.specs.machine.Usage.{used, usage_of, amount_for}
+use Rattle.row_machine.specs.machine.Usage.{usage_of, used_on}
 use Rattle.row_machine.specs.machine.Operations.{converted, ended, succeeded, success_changes, with_power_after, power_after}
 use Rattle.row_machine.specs.facts.Whole.{IsWhole, IsByDeed, IsPlaced, instance_there, new_instance}
+use Rattle.row_readings.specs.Footprints.{no_footprint, footprint_above, instance_footprint}
+use Rattle.row_readings.specs.declared.amounts.Footprint.{Footprint}
 use Rattle.machine_laws.specs.Lowered.{IsLastDone, LowersUsage}
 use Rattle.machine_laws.proofs.BooksSteps.{applied-same, power-keeps}
 use Rattle.machine_laws.proofs.ExpansionsApart.{fails-by}
 use Rattle.machine_laws.proofs.Found.{there-is, instance-found}
-use Rattle.machine_laws.proofs.LimitsEnds.{claims-same}
+use Rattle.machine_laws.proofs.LimitsEnds.{claims-same, instance-same, share-new}
 use Rattle.machine_laws.proofs.LimitsRows.{Tables, tables, IsDone, applied-append, unsnapped, with-instance}
 use Rattle.machine_laws.proofs.LimitsSuccess.{success-rows, power-tables, ClaimsInstance, none, some, claims-instance}
 use Rattle.machine_laws.proofs.LimitsSums.{instance_part, volume_part, claim_part, used-split, sum-more}
 use Rattle.machine_laws.proofs.LoweredUsage.{lowers}
+use Rattle.machine_laws.proofs.Measures.{Measure, IsMeasure, measured, used_by, pool-measure, none-measure}
+use Rattle.machine_laws.proofs.SharesAlike.{HoldsAlike}
 use Rattle.machine_laws.proofs.SharesApart.{new-no_row, instance-so, instance-key, instance-row}
-use Rattle.machine_laws.proofs.SharesSuccess.{share-done, done-projects, amounts-tables}
+use Rattle.machine_laws.proofs.SharesSuccess.{share-done, done-projects, counts-tables}
 use Rattle.core_totals.specs.Ends.{leaves_usage, has_fall, fall_of}
-use Rattle.core_totals.proofs.Usage.{SameUsage, part-used, usage-parts, usage-telling}
+use Rattle.core_totals.proofs.Usage.{SameUsage, Falls, falls-measured}
 
 -- ---- what deeds are
 
@@ -104,15 +106,6 @@ made-new task (deed.Act a e) h = absurd (cc)
 made-new task deed.Snap h = absurd (cc)
 made-new task deed.Unsnap h = absurd (cc)
 made-new task deed.CopyVolume h = absurd (cc)
-
--- what an operation that replaces none claims is what its row counts for
-claim-new : (s : State) (project : List ℕ) (k : Part) (o : Operation Task) (r : Row) → o.work.claim ≡ Some r → replaced_instance s o.work ≡ None
-    → claim_part s project k o ≡ amount_for project k (record { project = project_of_row r; amounts = amounts_of s r })
-unfolding share_of
-claim-new s project k o r is replaces_none =
-    ap (λ claim. option_map_or (amount_for project k)
-    (option_map (λ new. record { project = project_of_row new; amounts = option_map_or (λ n. share_over s n (replaced_instance s o.work)) claim nothing }) claim) 0) is
-    ∙ ap (λ old. amount_for project k (record { project = project_of_row r; amounts = share_over s r old })) replaces_none
 
 -- ---- the removal of an instance
 
@@ -234,36 +227,11 @@ leaving-replaces deed.Rename h = absurd (cc)
 leaving-replaces deed.Delete h = absurd (cc)
 leaving-replaces deed.CopyVolume h = absurd (cc)
 
-none-counts : (project : List ℕ) (k : Part) (of : List ℕ) → amount_for project k (record { project = of; amounts = nothing }) ≡ 0
-none-counts project k of = at (bytes_eq of project) k where
-  at : (b : Bool) (p : Part) → cond b (part p nothing) 0 ≡ 0
-  at false p = refl
-  at true Part.Instances = refl
-  at true Part.Containers = refl
-  at true Part.Machines = refl
-  at true Part.Cpu = refl
-  at true Part.Memory = refl
-  at true Part.Processes = refl
-  at true Part.Disk = refl
-
--- ---- falls
-
--- the usage of a project falls by this, and that of the others stays
-pub record Falls (s t : State) (project : List ℕ) (fall : Amounts) : Type 0 where
-  pub own : (k : Part) → part k (usage_of s project) ≡ part k (usage_of t project) + part k fall
-  pub others : (other : List ℕ) → project ≢ other → usage_of t other ≡ usage_of s other
-
-pub falls-told : (s t : State) (project : List ℕ) (fall : Amounts) (ns : List Untold) → Falls s t project fall → Falls s (telling ns t) project fall
-falls-told s t project fall ns f = record {
-  own = λ k. f.own k ∙ ap (λ (u : Amounts). part k u + part k fall) (sym (usage-telling ns t project));
-  others = λ other apart. usage-telling ns t other ∙ f.others other apart;
-}
-
-pub falls-untold : (s t : State) (project : List ℕ) (fall : Amounts) (ns : List Untold) → Falls s (telling ns t) project fall → Falls s t project fall
-falls-untold s t project fall ns f = record {
-  own = λ k. f.own k ∙ ap (λ (u : Amounts). part k u + part k fall) (usage-telling ns t project);
-  others = λ other apart. sym (usage-telling ns t other) ∙ f.others other apart;
-}
+none-counts : (project : List ℕ) (k : Measure) → IsMeasure k → (of : List ℕ) → measured project k (record { project = of; amounts = nothing; on = no_part }) ≡ 0
+none-counts project k measure of = at (bytes_eq of project) where
+  at : (b : Bool) → cond b (k nothing no_part) 0 ≡ 0
+  at false = refl
+  at true = none-measure k measure
 
 -- ---- one success
 
@@ -290,16 +258,13 @@ module _ (s : State) (o : Operation Task) (moment : ℕ) (h : IsWhole s) (live :
   rest = ap (λ k. dropped (has_number o.number) k.live) ((applied-same (success_changes s o.work) start).operations
       ∙ power-keeps (λ t. t.operations ≡ s.operations) (λ t powers e. e) o.work (power_after s o.work) s refl)
 
-  shares : Each (λ (x : Operation Task). share_of next x.work ≡ share_of s x.work) (dropped (has_number o.number) s.operations.live)
+  shares : Each (λ (x : Operation Task). HoldsAlike s next x.work) (dropped (has_number o.number) s.operations.live)
   shares = record { at = λ x m. share-done s o x next h live m done-rows }
 
-  abbrev a : List ℕ → Part → Instance → ℕ
-  a project k i = instance_part s project k i
-
   -- all that counts, before and after
-  success-used : (project : List ℕ) (k : Part)
-      → used next project k + claim_part s project k o + (sum_by (instance_part s project k) s.instances + sum_by (volume_part project k) s.volumes)
-      ≡ used s project k + (sum_by (instance_part s project k) next.instances + sum_by (volume_part project k) next.volumes)
+  success-used : (project : List ℕ) (k : Measure)
+      → used_by next project k + claim_part s project k o + (sum_by (instance_part s project k) s.instances + sum_by (volume_part project k) s.volumes)
+      ≡ used_by s project k + (sum_by (instance_part s project k) next.instances + sum_by (volume_part project k) next.volumes)
   success-used project k =
       let before = used-split s project k in
       let after = used-split next project k in
@@ -310,25 +275,25 @@ module _ (s : State) (o : Operation Task) (moment : ℕ) (h : IsWhole s) (live :
       let same_homes = done-projects s done-rows in
       let instances : sum_by (instance_part next project k) next.instances ≡ sum_by (instance_part s project k) next.instances =
       sum_by-same (instance_part next project k) (instance_part s project k) next.instances
-      (record { at = λ j m. ap (λ x. amount_for project k (record { project = j.project; amounts = x })) (amounts-tables s next j same_homes.0 same_homes.1) }) in
+      (record { at = λ j m. instance-same s next project k j (counts-tables s next j same_homes.0 same_homes.1) }) in
       omega (arith, before, after, claims, others, instances)
 
   -- with these rows
-  success-with : (later : Tables) → tables next ≡ later → (project : List ℕ) (k : Part)
-      → used next project k + claim_part s project k o + (sum_by (instance_part s project k) s.instances + sum_by (volume_part project k) s.volumes)
-      ≡ used s project k + (sum_by (instance_part s project k) later.instances + sum_by (volume_part project k) later.volumes)
+  success-with : (later : Tables) → tables next ≡ later → (project : List ℕ) (k : Measure)
+      → used_by next project k + claim_part s project k o + (sum_by (instance_part s project k) s.instances + sum_by (volume_part project k) s.volumes)
+      ≡ used_by s project k + (sum_by (instance_part s project k) later.instances + sum_by (volume_part project k) later.volumes)
   success-with later is project k =
       success-used project k
-      ∙ ap (λ (x : Tables). used s project k + (sum_by (instance_part s project k) x.instances + sum_by (volume_part project k) x.volumes)) is
+      ∙ ap (λ (x : Tables). used_by s project k + (sum_by (instance_part s project k) x.instances + sum_by (volume_part project k) x.volumes)) is
 
   replaced-none : replaces_target o.work.deed ≡ false → replaced_instance s o.work ≡ None
   replaced-none e = ap by_names (deeds.replaces ∙ ap (λ b. cond b (Some (o.work.project, o.work.target.name)) None) e) where
     by_names : Option (List ℕ × List ℕ) → Option Instance
     by_names names = option_and_then (λ (n : List ℕ × List ℕ). instance_named s.instances n.0 n.1) names
 
-  unclaimed : o.work.claim ≡ None → (project : List ℕ) (k : Part) → claim_part s project k o ≡ 0
-  unclaimed is project k =
-      ap (λ claim. option_map_or (amount_for project k) (option_map (λ (new : Row). record { project = project_of_row new; amounts = share_of s o.work }) claim) 0) is
+  unclaimed : o.work.claim ≡ None → (project : List ℕ) (k : Measure) → claim_part s project k o ≡ 0
+  unclaimed is project k = ap (λ claim. option_map_or (measured project k)
+      (option_map (λ (new : Row). record { project = project_of_row new; amounts = share_of s o.work; on = part_of_share s o.work }) claim) 0) is
 
   claimed-none : claim_kind o.work.deed ≡ None → o.work.claim ≡ None
   claimed-none e = at o.work.claim (deeds.kind ∙ e) where
@@ -349,13 +314,13 @@ module _ (s : State) (o : Operation Task) (moment : ℕ) (h : IsWhole s) (live :
         (find-some (is_instance i.project i.name) s.instances j is).0 (sym names.0, sym names.1))
 
   made-used : makes_instance o.work.deed ≡ true → (i : Instance) → o.work.claim ≡ Some (row.Instance i) → claimed_instance o.work ≡ Some i
-      → (project : List ℕ) (k : Part) → used next project k ≡ used s project k
+      → (project : List ℕ) (k : Measure) → used_by next project k ≡ used_by s project k
   made-used makes i claim claimed project k =
       let rows : tables next ≡ record (tables s) { instances = with_instance i s.instances } = made-rows s start o.work o.work.deed i makes claim (power-tables o.work (power_after s o.work) s) in
       let all = success-with (record (tables s) { instances = with_instance i s.instances }) rows project k in
       let more : sum_by (instance_part s project k) (with_instance i s.instances) ≡ instance_part s project k i + sum_by (instance_part s project k) s.instances =
       sum-more (instance_part s project k) (is_instance i.project i.name) (λ y. texts_before (instance_names i) (instance_names y)) i s.instances (new-name makes i claimed) in
-      let held : claim_part s project k o ≡ instance_part s project k i = claim-new s project k o (row.Instance i) claim (replaced-none (made-claims o.work.deed makes).1) in
+      let held : claim_part s project k o ≡ instance_part s project k i = share-new s project k o (row.Instance i) claim (replaced-none (made-claims o.work.deed makes).1) in
       omega (arith, all, more, held)
 
   made-next : makes_instance o.work.deed ≡ true → SameUsage s next
@@ -369,19 +334,19 @@ module _ (s : State) (o : Operation Task) (moment : ℕ) (h : IsWhole s) (live :
 
     at : ClaimsInstance o.work → SameUsage s next
     at (none is) = absurd (never o.work.claim is claim_is)
-    at (some i claim claimed) = usage-parts s next (made-used makes i claim claimed)
+    at (some i claim claimed) = λ project k measure. made-used makes i claim claimed project k
 
   -- ---- what leaves the rows
 
-  without_amount : leaves_rows o.work.deed ≡ true → (project : List ℕ) (k : Part) → claim_part s project k o ≡ 0
-  without_amount leaves project k = elim (leaving-claims o.work.deed leaves) [
+  without_amount : leaves_rows o.work.deed ≡ true → (project : List ℕ) (k : Measure) → IsMeasure k → claim_part s project k o ≡ 0
+  without_amount leaves project k measure = elim (leaving-claims o.work.deed leaves) [
     | inl e ↦ unclaimed (claimed-none e) project k
     | inr e ↦ at o.work.claim refl (deeds.kind ∙ e)
   ] where
     at : (claim : Option Row) → o.work.claim ≡ claim → option_map (λ r. (target_of r).kind) claim ≡ Some kind.Snapshot → claim_part s project k o ≡ 0
     at None is k_is = unclaimed is project k
     at (Some (row.Snapshot r)) is k_is =
-        claim-new s project k o (row.Snapshot r) is (replaced-none (leaving-replaces o.work.deed leaves)) ∙ none-counts project k r.project
+        share-new s project k o (row.Snapshot r) is (replaced-none (leaving-replaces o.work.deed leaves)) ∙ none-counts project k measure r.project
     at (Some (row.Project r)) is k_is = absurd (cc)
     at (Some (row.Profile r)) is k_is = absurd (cc)
     at (Some (row.Network r)) is k_is = absurd (cc)
@@ -390,14 +355,14 @@ module _ (s : State) (o : Operation Task) (moment : ℕ) (h : IsWhole s) (live :
     at (Some (row.Instance r)) is k_is = absurd (cc)
 
   left-next : leaves_rows o.work.deed ≡ true → SameUsage s next
-  left-next leaves = usage-parts s next (λ project k.
+  left-next leaves project k measure =
       let all = success-with (tables s) (leaving-rows s start o.work o.work.deed leaves deeds.kind (power-tables o.work (power_after s o.work) s)) project k in
-      omega (arith, all, without_amount leaves project k))
+      omega (arith, all, without_amount leaves project k measure)
 
   -- ---- a removal
 
   -- the key of the target finds the target
-  target-dropped : (old : Instance) → instance_named s.instances o.work.project o.work.target.name ≡ Some old → (project : List ℕ) (k : Part)
+  target-dropped : (old : Instance) → instance_named s.instances o.work.project o.work.target.name ≡ Some old → (project : List ℕ) (k : Measure)
       → sum_by (instance_part s project k) s.instances ≡ instance_part s project k old + sum_by (instance_part s project k) (without old s.instances)
   target-dropped old found project k = sum_by-Puts (instance_part s project k) (dropped-Puts (λ r. has_key (two_names old.project old.name) (row.Instance r)) old s.instances
       (find-alike s.instances (record { at = alike }) ∙ found)) where
@@ -428,7 +393,7 @@ module _ (s : State) (o : Operation Task) (moment : ℕ) (h : IsWhole s) (live :
         find-alike {p} {q} (y ∷ ys) e = ap (λ t. cond t (Some y) (find p ys)) (Each-head e) ∙ ap (λ r. cond (q y) (Some y) r) (find-alike ys (Each-tail e))
 
   removed-used : removes o.work.deed ≡ true → (old : Instance) → instance_named s.instances o.work.project o.work.target.name ≡ Some old
-      → (project : List ℕ) (k : Part) → used s project k ≡ used next project k + instance_part s project k old
+      → (project : List ℕ) (k : Measure) → used_by s project k ≡ used_by next project k + instance_part s project k old
   removed-used goes old found project k =
       let rows = removing-rows s start o.work o.work.deed old goes found (power-tables o.work (power_after s o.work) s) in
       let all = success-with (record (tables s) { instances = without old s.instances }) rows project k in
@@ -436,23 +401,17 @@ module _ (s : State) (o : Operation Task) (moment : ℕ) (h : IsWhole s) (live :
 
   -- what it counted for
   removed-fall : (old : Instance) → instance_named s.instances o.work.project o.work.target.name ≡ Some old → o.work.claim ≡ None
-      → (k : Part) → part k (fall_of s o.work) ≡ part k (amounts_of_instance s old)
-  removed-fall old found claim k =
-      ap (part k)
-      (ap (λ found_one. option_map_or (λ x. excess_of (amounts_of_instance s x) (option_map_or (amounts_of_instance s) (claimed_instance o.work) nothing)) found_one nothing) found
-      ∙ ap (λ c. excess_of (amounts_of_instance s old) (option_map_or (amounts_of_instance s) (claimed_instance (record o.work { claim = c })) nothing)) claim)
-      ∙ part-excess k (amounts_of_instance s old) nothing ∙ less-none k where
-        less-none : (p : Part) → part p (amounts_of_instance s old) - part p nothing ≡ part p (amounts_of_instance s old)
-        less-none Part.Instances = omega arith
-        less-none Part.Containers = omega arith
-        less-none Part.Machines = omega arith
-        less-none Part.Cpu = omega arith
-        less-none Part.Memory = omega arith
-        less-none Part.Processes = omega arith
-        less-none Part.Disk = omega arith
+      → (k : Measure) → IsMeasure k → k (fall_of s o.work).amounts (fall_of s o.work).on ≡ k (amounts_of_instance s old) (part_of_instance s old)
+  removed-fall old found claim k measure =
+      let fall : fall_of s o.work ≡ footprint_above (instance_footprint s old) no_footprint =
+      ap (λ found_one. option_map_or (λ x. footprint_above (instance_footprint s x) (option_map_or (instance_footprint s) (claimed_instance o.work) no_footprint)) found_one no_footprint) found
+      ∙ ap (λ c. footprint_above (instance_footprint s old) (option_map_or (instance_footprint s) (claimed_instance (record o.work { claim = c })) no_footprint)) claim in
+      let counts = ap (λ (f : Footprint). k f.amounts f.on) fall in
+      let above = measure.excess (amounts_of_instance s old) nothing (part_of_instance s old) no_part in
+      omega (arith, counts, above, none-measure k measure)
 
   removed-next : removes o.work.deed ≡ true → Falls s next o.work.project (fall_of s o.work)
-  removed-next goes = record { own = own; others = others } where
+  removed-next goes = falls-measured s next o.work.project (fall_of s o.work) own others where
     claims : (claim_kind o.work.deed ≡ None) × ((has_target o.work.deed ≡ true) × (target_kind o.work.deed ≡ kind.Instance))
     claims = removing-claims o.work.deed goes
 
@@ -463,25 +422,27 @@ module _ (s : State) (o : Operation Task) (moment : ℕ) (h : IsWhole s) (live :
     old_project : there.0.project ≡ o.work.project
     old_project = (instance-found s.instances o.work.project o.work.target.name there.0 there.1).0
 
-    own : (k : Part) → part k (usage_of s o.work.project) ≡ part k (usage_of next o.work.project) + part k (fall_of s o.work)
-    own k =
-        let old_is : instance_part s o.work.project k there.0 ≡ part k (amounts_of_instance s there.0) =
-        ap (λ b. cond b (part k (amounts_of_instance s there.0)) 0) (ap (λ p. bytes_eq p o.work.project) old_project ∙ bytes_eq-itself o.work.project) in
+    old_counts : Measure → ℕ
+    old_counts k = k (amounts_of_instance s there.0) (part_of_instance s there.0)
+
+    own : (k : Measure) → IsMeasure k
+        → used_by s o.work.project k ≡ used_by next o.work.project k + k (fall_of s o.work).amounts (fall_of s o.work).on
+    own k measure =
+        let old_is : instance_part s o.work.project k there.0 ≡ old_counts k =
+        ap (λ b. cond b (old_counts k) 0) (ap (λ p. bytes_eq p o.work.project) old_project ∙ bytes_eq-itself o.work.project) in
         omega (
           arith,
-          part-used s o.work.project k,
-          part-used next o.work.project k,
           removed-used goes there.0 there.1 o.work.project k,
           old_is,
-          removed-fall there.0 there.1 (claimed-none claims.0) k,
+          removed-fall there.0 there.1 (claimed-none claims.0) k measure,
         )
 
-    others : (other : List ℕ) → o.work.project ≢ other → usage_of next other ≡ usage_of s other
-    others other apart = same-parts _ _ (λ k.
+    others : (other : List ℕ) → o.work.project ≢ other → (k : Measure) → IsMeasure k → used_by next other k ≡ used_by s other k
+    others other apart k measure =
         let fails : bytes_eq o.work.project other ≡ false = fails-by (bytes_eq o.work.project other) (λ is. apart (same o.work.project other is)) in
         let old_is : instance_part s other k there.0 ≡ 0 =
-        ap (λ b. cond b (part k (amounts_of_instance s there.0)) 0) (ap (λ p. bytes_eq p other) old_project ∙ fails) in
-        omega (arith, part-used s other k, part-used next other k, removed-used goes there.0 there.1 other k, old_is))
+        ap (λ b. cond b (old_counts k) 0) (ap (λ p. bytes_eq p other) old_project ∙ fails) in
+        omega (arith, removed-used goes there.0 there.1 other k, old_is)
 
   -- ---- what each makes of usage
 
@@ -501,19 +462,29 @@ module _ (s : State) (o : Operation Task) (moment : ℕ) (h : IsWhole s) (live :
 pub changed-usage : (s : State) (o : Operation Task) (moment : ℕ) → IsLastDone s o → keeps_name o.work.deed ≡ true
     → Falls s (succeeded s o moment) o.work.project (fall_of s o.work)
 changed-usage s o moment h keeps = record {
-  own = λ k. l.own k ∙ ap (λ n. part k (usage_of (succeeded s o moment) o.work.project) + n) (fall-is k);
+  own = λ k. l.own k ∙ ap (λ n. part k (usage_of (succeeded s o moment) o.work.project) + n) (parts-fall k);
   others = λ other apart. same-parts _ _ (λ k. l.others other (λ e. apart (sym e)) k);
+  own_pools = λ pool. l.own_pools pool ∙ ap (λ n. used_on (succeeded s o moment) o.work.project pool + n) (pools-fall pool);
+  other_pools = λ other apart pool. l.other_pools other (λ e. apart (sym e)) pool;
 } where
   l : LowersUsage s (succeeded s o moment) o
   l = lowers s o moment h keeps
 
-  fall-is : (k : Part) → part k (minus_of (amounts_of_instance s l.old) (amounts_of_instance s l.new)) ≡ part k (fall_of s o.work)
-  fall-is k =
+  fall : fall_of s o.work ≡ footprint_above (instance_footprint s l.old) (instance_footprint s l.new)
+  fall =
+      ap (λ found_one. option_map_or (λ x. footprint_above (instance_footprint s x) (option_map_or (instance_footprint s) (claimed_instance o.work) no_footprint)) found_one no_footprint) l.stands
+      ∙ ap (λ c. footprint_above (instance_footprint s l.old) (option_map_or (instance_footprint s) c no_footprint)) l.claimed
+
+  parts-fall : (k : Part) → part k (minus_of (amounts_of_instance s l.old) (amounts_of_instance s l.new)) ≡ part k (fall_of s o.work).amounts
+  parts-fall k =
       part-minus k (amounts_of_instance s l.old) (amounts_of_instance s l.new)
       ∙ sym (part-excess k (amounts_of_instance s l.old) (amounts_of_instance s l.new))
-      ∙ sym (ap (part k)
-      (ap (λ found_one. option_map_or (λ x. excess_of (amounts_of_instance s x) (option_map_or (amounts_of_instance s) (claimed_instance o.work) nothing)) found_one nothing) l.stands
-      ∙ ap (λ c. excess_of (amounts_of_instance s l.old) (option_map_or (amounts_of_instance s) c nothing)) l.claimed))
+      ∙ sym (ap (λ (f : Footprint). part k f.amounts) fall)
+
+  pools-fall : (pool : List ℕ) → on_pool pool (part_of_instance s l.old) - on_pool pool (part_of_instance s l.new) ≡ on_pool pool (fall_of s o.work).on
+  pools-fall pool =
+      sym ((pool-measure pool).excess (amounts_of_instance s l.old) (amounts_of_instance s l.new) (part_of_instance s l.old) (part_of_instance s l.new))
+      ∙ sym (ap (λ (f : Footprint). on_pool pool f.on) fall)
 
 -- ---- by deed
 

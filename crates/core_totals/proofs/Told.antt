@@ -1,108 +1,205 @@
 -- What is known of projects after totals were changed.
-use Rattle.std.proofs.Common.{◌≡◌, ◌≢◌, ℕ, ◌+◌, ◌-◌, Bool, true, false, cond, Option, Some, None, List, [], ◌∷◌, ◌++◌, refl, sym, ◌∙◌, ap, subst, arith}
+use Rattle.std.proofs.Common.{◌≡◌, ◌≢◌, ℕ, ◌+◌, ◌-◌, ◌&&◌, Bool, true, false, cond, Option, Some, None, List, [], ◌∷◌, ◌++◌, refl, sym, ◌∙◌, ap, subst, arith}
 use Rattle.std.specs.Prelude.{IfSome}
 use Rattle.std.specs.List.{find}
 use Rattle.std.specs.Option.{option_map, option_or}
 use Rattle.std.specs.Str.{bytes_eq}
 use Rattle.std.proofs.lemmas.Bool.{false≢true}
 use Rattle.std.proofs.lemmas.List.Folds.{find-append}
+use Rattle.plain_lists.specs.Edits.{changed_first}
+use Rattle.plain_lists.proofs.EditLemmas.{changed-none, find-changed, find-changed_other}
+use Rattle.plain_lists.proofs.Searches.{find-none, find-some, none-any}
 use Rattle.config_lists.proofs.Keys.{same, bytes_eq-itself}
-use Rattle.size_values.specs.Amounts.{excess_of}
+use Rattle.size_values.specs.Amounts.{plus_of, excess_of}
+use Rattle.size_values.specs.PoolParts.{on_pool}
 use Rattle.size_values.specs.declared.amounts.Amounts.{Amounts}
-use Rattle.size_values.proofs.AmountParts.{same-parts, part-excess}
+use Rattle.size_values.specs.declared.pool_part.PoolPart.{PoolPart}
+use Rattle.size_values.proofs.AmountParts.{same-parts, part-plus, part-excess}
 use Rattle.row_machine.specs.machine.State.{State}
-use Rattle.row_machine.specs.machine.Usage.{usage_of}
-use Rattle.core_totals.specs.declared.totals.Total.{Total}
-use Rattle.core_totals.specs.Totals.{AreTotals, is_of, known, changed, lowered}
-use Rattle.core_totals.proofs.Usage.{SameUsage}
-use Rattle.core_totals.proofs.Successes.{Falls}
+use Rattle.row_machine.specs.machine.Usage.{usage_of, used_on}
+use Rattle.row_readings.specs.declared.amounts.Footprint.{Footprint}
+use Rattle.machine_laws.proofs.ExpansionsApart.{fails-by}
+use Rattle.machine_laws.proofs.Measures.{by_pool, pool-measure}
+use Rattle.core_totals.specs.declared.amount_totals.Total.{Total}
+use Rattle.core_totals.specs.declared.pool_totals.PoolTotal.{PoolTotal}
+use Rattle.core_totals.specs.declared.totals.Totals.{Totals}
+use Rattle.core_totals.specs.Totals.{AreAmounts, ArePools, AreTotals, is_of, is_on, known, known_on, changed, changed_on, nothing_known, grown, lowered}
+use Rattle.core_totals.proofs.Usage.{SameUsage, Falls, same-amounts}
 
 -- ---- what is known after a change
 
+-- what is found is found changed
+found-changed : {X : Type 0} (p : X → Bool) (f : X → X) (xs : List X) → ((x : X) → p (f x) ≡ p x) → find p (changed_first p f xs) ≡ option_map f (find p xs)
+found-changed {X} p f xs keeps = at (find p xs) refl where
+  at : (found : Option X) → find p xs ≡ found → find p (changed_first p f xs) ≡ option_map f found
+  at None is = ap (find p) (changed-none p f xs (none-any p xs (find-none p xs is))) ∙ is
+  at (Some x) is = find-changed p f x xs is (keeps x ∙ (find-some p xs x is).1)
+
 -- of the project itself
-pub known-own : (project : List ℕ) (f : Amounts → Amounts) (totals : List Total)
+known-own : (project : List ℕ) (f : Amounts → Amounts) (totals : List Total)
     → known (changed project f totals) project ≡ option_map f (known totals project)
-known-own project f [] = refl
-known-own project f (t ∷ ts) = at (bytes_eq t.project project) refl (known-own project f ts) where
-  at : (b : Bool) → bytes_eq t.project project ≡ b → known (changed project f ts) project ≡ option_map f (known ts project)
-      → known (cond b (record t { amounts = f t.amounts } ∷ ts) (t ∷ changed project f ts)) project
-      ≡ option_map f (option_map (λ (x : Total). x.amounts) (cond b (Some t) (find (is_of project) ts)))
-  at true is more = ap (λ b. option_map (λ (x : Total). x.amounts) (cond b (Some (record t { amounts = f t.amounts })) (find (is_of project) ts))) is
-  at false is more =
-      ap (λ b. option_map (λ (x : Total). x.amounts) (cond b (Some t) (find (is_of project) (changed project f ts)))) is ∙ more
+known-own project f totals = ap (option_map (λ t. t.amounts)) (found-changed (is_of project) change totals (λ t. refl)) ∙ read (find (is_of project) totals) where
+  change : Total → Total
+  change t = record t { amounts = f t.amounts }
+
+  read : (o : Option Total) → option_map (λ t. t.amounts) (option_map change o) ≡ option_map f (option_map (λ t. t.amounts) o)
+  read None = refl
+  read (Some t) = refl
+
+known_on-own : (project pool : List ℕ) (f : ℕ → ℕ) (totals : List PoolTotal)
+    → known_on (changed_on project pool f totals) project pool ≡ option_map f (known_on totals project pool)
+known_on-own project pool f totals = ap (option_map (λ t. t.used)) (found-changed (is_on project pool) change totals (λ t. refl)) ∙ read (find (is_on project pool) totals) where
+  change : PoolTotal → PoolTotal
+  change t = record t { used = f t.used }
+
+  read : (o : Option PoolTotal) → option_map (λ t. t.used) (option_map change o) ≡ option_map f (option_map (λ t. t.used) o)
+  read None = refl
+  read (Some t) = refl
 
 -- of the others
-pub known-other : (project other : List ℕ) (f : Amounts → Amounts) (totals : List Total) → project ≢ other
+known-other : (project other : List ℕ) (f : Amounts → Amounts) (totals : List Total) → project ≢ other
     → known (changed project f totals) other ≡ known totals other
-known-other project other f [] apart = refl
-known-other project other f (t ∷ ts) apart = at (bytes_eq t.project project) refl (known-other project other f ts apart) where
-  read : Bool → Total → List Total → Option Amounts
-  read b x xs = option_map (λ (y : Total). y.amounts) (cond b (Some x) (find (is_of other) xs))
+known-other project other f totals apart =
+    ap (option_map (λ t. t.amounts))
+    (find-changed_other (is_of project) (is_of other) (λ t. record t { amounts = f t.amounts }) totals (λ t is. let no = differs t is in (no, no))) where
+      differs : (t : Total) → is_of project t ≡ true → is_of other t ≡ false
+      differs t is = fails-by (is_of other t) (λ hit. apart (sym (same t.project project is) ∙ same t.project other hit))
 
-  not-other : bytes_eq t.project project ≡ true → (b : Bool) → bytes_eq t.project other ≡ b → b ≡ false
-  not-other is true also = absurd (apart (sym (same t.project project is) ∙ same t.project other also))
-  not-other is false also = refl
+-- two conditions, of which both hold
+both : (a b : Bool) → (a && b) ≡ true → (a ≡ true) × (b ≡ true)
+both true b e = (refl, e)
+both false b e = cc
 
-  at : (b : Bool) → bytes_eq t.project project ≡ b → known (changed project f ts) other ≡ known ts other
-      → known (cond b (record t { amounts = f t.amounts } ∷ ts) (t ∷ changed project f ts)) other ≡ read (bytes_eq t.project other) t ts
-  at true is more =
-      let differs = not-other is (bytes_eq t.project other) refl in
-      ap (λ b. read b (record t { amounts = f t.amounts }) ts) differs ∙ ap (λ b. read b t ts) (sym differs)
-  at false is more = more-in (bytes_eq t.project other) more where
-    more-in : (b : Bool) → known (changed project f ts) other ≡ known ts other → read b t (changed project f ts) ≡ read b t ts
-    more-in true e = refl
-    more-in false e = e
+known_on-other : (project pool other there : List ℕ) (f : ℕ → ℕ) (totals : List PoolTotal) → (project ≡ other → pool ≢ there)
+    → known_on (changed_on project pool f totals) other there ≡ known_on totals other there
+known_on-other project pool other there f totals apart =
+    ap (option_map (λ t. t.used))
+    (find-changed_other (is_on project pool) (is_on other there) (λ t. record t { used = f t.used }) totals (λ t is. let no = differs t is in (no, no))) where
+      differs : (t : PoolTotal) → is_on project pool t ≡ true → is_on other there t ≡ false
+      differs t is = fails-by (is_on other there t) (λ hit.
+          let here = both (bytes_eq t.project project) (bytes_eq t.pool pool) is in
+          let elsewhere = both (bytes_eq t.project other) (bytes_eq t.pool there) hit in
+          apart (sym (same t.project project here.0) ∙ same t.project other elsewhere.0) (sym (same t.pool pool here.1) ∙ same t.pool there elsewhere.1))
+
+-- ---- falls
+
+part-here : (part : PoolPart) → on_pool part.pool part ≡ part.disk
+part-here part = ap (λ b. cond b part.disk 0) (bytes_eq-itself part.pool)
+
+part-elsewhere : (part : PoolPart) (pool : List ℕ) → part.pool ≢ pool → on_pool pool part ≡ 0
+part-elsewhere part pool apart = ap (λ b. cond b part.disk 0) (fails-by (bytes_eq part.pool pool) (λ is. apart (same part.pool pool is)))
+
+apart-by : (a b : List ℕ) → bytes_eq a b ≡ false → a ≢ b
+apart-by a b is e = false≢true (sym is ∙ ap (bytes_eq a) (sym e) ∙ bytes_eq-itself a)
+
+-- what a project uses of other pools stays
+falls-elsewhere : (s t : State) (project : List ℕ) (fall : Footprint) → Falls s t project fall
+    → (other there : List ℕ) → (project ≡ other → fall.on.pool ≢ there) → used_on t other there ≡ used_on s other there
+falls-elsewhere s t project fall f other there apart = by (bytes_eq project other) refl where
+  own : project ≡ other → used_on t project there ≡ used_on s project there
+  own name = let all = f.own_pools there in let none = part-elsewhere fall.on there (apart name) in omega (arith, all, none)
+
+  by : (b : Bool) → bytes_eq project other ≡ b → used_on t other there ≡ used_on s other there
+  by true is =
+      let name = same project other is in
+      subst (λ p. used_on t p there ≡ used_on s p there) name (own name)
+  by false is = f.other_pools other (apart-by project other is) there
 
 -- ---- totals of a state
 
-module _ (s t : State) (totals : List Total) (are : AreTotals s totals) where
-  -- where no usage changes
-  pub totals-same : SameUsage s t → AreTotals t totals
-  totals-same same_usage = record { known = λ project. at project (known totals project) (are.known project) } where
-    at : (project : List ℕ) (a : Option Amounts) → IfSome a (λ amounts. amounts ≡ usage_of s project)
-        → IfSome a (λ amounts. amounts ≡ usage_of t project)
-    at project None h = tt
-    at project (Some a) h = h ∙ sym (same_usage project)
+-- what is told of something that may be known
+told : {X Y : Type 0} (f : X → Y) (o : Option X) (x : X) (y : Y) → y ≡ f x → IfSome o (λ n. n ≡ x) → IfSome (option_map f o) (λ n. n ≡ y)
+told f None x y is h = tt
+told f (Some n) x y is h = ap f h ∙ sym is
 
-  -- where that of one project changes
-  pub totals-changed : (project : List ℕ) (f : Amounts → Amounts) → usage_of t project ≡ f (usage_of s project)
-      → ((other : List ℕ) → project ≢ other → usage_of t other ≡ usage_of s other) → AreTotals t (changed project f totals)
-  totals-changed project f own others = record { known = λ other. by other (bytes_eq project other) refl } where
-    is-own : (a : Option Amounts) → IfSome a (λ amounts. amounts ≡ usage_of s project)
-        → IfSome (option_map f a) (λ amounts. amounts ≡ usage_of t project)
-    is-own None h = tt
-    is-own (Some a) h = ap f h ∙ sym own
+still : {X : Type 0} (o : Option X) (x y : X) → y ≡ x → IfSome o (λ n. n ≡ x) → IfSome o (λ n. n ≡ y)
+still None x y is h = tt
+still (Some n) x y is h = h ∙ sym is
 
-    is-other : (other : List ℕ) → project ≢ other → (a : Option Amounts) → IfSome a (λ amounts. amounts ≡ usage_of s other)
-        → IfSome a (λ amounts. amounts ≡ usage_of t other)
-    is-other other apart None h = tt
-    is-other other apart (Some a) h = h ∙ sym (others other apart)
-
+module _ (s t : State) where
+  -- where amounts of one project change
+  amounts-changed : (totals : List Total) → AreAmounts s totals → (project : List ℕ) (f : Amounts → Amounts) → usage_of t project ≡ f (usage_of s project)
+      → ((other : List ℕ) → project ≢ other → usage_of t other ≡ usage_of s other) → AreAmounts t (changed project f totals)
+  amounts-changed totals are project f own others = record { known = λ other. by other (bytes_eq project other) refl } where
     by : (other : List ℕ) (b : Bool) → bytes_eq project other ≡ b
         → IfSome (known (changed project f totals) other) (λ amounts. amounts ≡ usage_of t other)
     by other true is =
         subst (λ p. IfSome (known (changed project f totals) p) (λ amounts. amounts ≡ usage_of t p)) (same project other is)
         (subst (λ a. IfSome a (λ amounts. amounts ≡ usage_of t project)) (sym (known-own project f totals))
-        (is-own (known totals project) (are.known project)))
+        (told f (known totals project) (usage_of s project) (usage_of t project) own (are.known project)))
     by other false is =
-        let apart : project ≢ other = λ e. false≢true (sym is ∙ ap (bytes_eq project) (sym e) ∙ bytes_eq-itself project) in
+        let apart = apart-by project other is in
         subst (λ a. IfSome a (λ amounts. amounts ≡ usage_of t other)) (sym (known-other project other f totals apart))
-        (is-other other apart (known totals other) (are.known other))
+        (still (known totals other) (usage_of s other) (usage_of t other) (others other apart) (are.known other))
 
-  -- where that of one project falls
-  pub totals-fallen : (project : List ℕ) (fall : Amounts) → Falls s t project fall → AreTotals t (lowered project fall totals)
-  totals-fallen project fall f = totals-changed project (λ a. excess_of a fall)
-      (same-parts _ _ (λ k. let less = part-excess k (usage_of s project) fall in omega (arith, f.own k, less)))
-      f.others
+  -- where bytes of one project on one pool change
+  pools-changed : (totals : List PoolTotal) → ArePools s totals → (project pool : List ℕ) (f : ℕ → ℕ) → used_on t project pool ≡ f (used_on s project pool)
+      → ((other there : List ℕ) → (project ≡ other → pool ≢ there) → used_on t other there ≡ used_on s other there) → ArePools t (changed_on project pool f totals)
+  pools-changed totals are project pool f own others = record {
+    known = λ other there. by other there (bytes_eq project other) (bytes_eq pool there) refl refl;
+  } where
+    Known : List ℕ → List ℕ → Type 0
+    Known other there = IfSome (known_on (changed_on project pool f totals) other there) (λ used. used ≡ used_on t other there)
+
+    elsewhere : (other there : List ℕ) → (project ≡ other → pool ≢ there) → Known other there
+    elsewhere other there apart =
+        subst (λ a. IfSome a (λ used. used ≡ used_on t other there)) (sym (known_on-other project pool other there f totals apart))
+        (still (known_on totals other there) (used_on s other there) (used_on t other there) (others other there apart) (are.known other there))
+
+    by : (other there : List ℕ) (b c : Bool) → bytes_eq project other ≡ b → bytes_eq pool there ≡ c → Known other there
+    by other there true true is so =
+        subst (λ p. Known p there) (same project other is)
+        (subst (λ q. Known project q) (same pool there so)
+        (subst (λ a. IfSome a (λ used. used ≡ used_on t project pool)) (sym (known_on-own project pool f totals))
+        (told f (known_on totals project pool) (used_on s project pool) (used_on t project pool) own (are.known project pool))))
+    by other there true false is so = elsewhere other there (λ e. apart-by pool there so)
+    by other there false c is so = elsewhere other there (λ e. absurd (apart-by project other is e))
+
+  module _ (totals : Totals) (are : AreTotals s totals) where
+    -- where no usage changes
+    pub totals-same : SameUsage s t → AreTotals t totals
+    totals-same same_usage = record {
+      amounts = record {
+        known = λ project. still (known totals.amounts project) (usage_of s project) (usage_of t project)
+            (same-amounts s t project (same_usage project)) (are.amounts.known project);
+      };
+      pools = record {
+        known = λ project pool. still (known_on totals.pools project pool) (used_on s project pool) (used_on t project pool)
+            (same_usage project (by_pool pool) (pool-measure pool)) (are.pools.known project pool);
+      };
+    }
+
+    -- where that of one project falls
+    pub totals-fallen : (project : List ℕ) (fall : Footprint) → Falls s t project fall → AreTotals t (lowered project fall.amounts fall.on totals)
+    totals-fallen project fall f = record {
+      amounts = amounts-changed totals.amounts are.amounts project (λ a. excess_of a fall.amounts)
+          (same-parts _ _ (λ k. let less = part-excess k (usage_of s project) fall.amounts in omega (arith, f.own k, less)))
+          f.others;
+      pools = pools-changed totals.pools are.pools project fall.on.pool (λ used. used - fall.on.disk)
+          (let own = f.own_pools fall.on.pool in let here = part-here fall.on in omega (arith, own, here))
+          (falls-elsewhere s t project fall f);
+    }
+
+    -- or rises
+    pub totals-risen : (project : List ℕ) (rise : Footprint) → Falls t s project rise → AreTotals t (grown project rise.amounts rise.on totals)
+    totals-risen project rise f = record {
+      amounts = amounts-changed totals.amounts are.amounts project (λ a. plus_of a rise.amounts)
+          (same-parts _ _ (λ k. let more = part-plus k (usage_of s project) rise.amounts in omega (arith, f.own k, more)))
+          (λ other apart. sym (f.others other apart));
+      pools = pools-changed totals.pools are.pools project rise.on.pool (λ used. used + rise.on.disk)
+          (let own = f.own_pools rise.on.pool in let here = part-here rise.on in omega (arith, own, here))
+          (λ other there apart. sym (falls-elsewhere t s project rise f other there apart));
+    }
 
 -- of no project anything is known
-pub totals-none : (s : State) → AreTotals s []
-totals-none s = record { known = λ project. tt }
+pub totals-none : (s : State) → AreTotals s nothing_known
+totals-none s = record { amounts = record { known = λ project. tt }; pools = record { known = λ project pool. tt } }
 
--- one more project
-pub totals-more : (s : State) (totals : List Total) (project : List ℕ) (amounts : Amounts) → AreTotals s totals → amounts ≡ usage_of s project
-    → AreTotals s (totals ++ record { project = project; amounts = amounts } ∷ [])
-totals-more s totals project amounts are is = record { known = each } where
+-- ---- one more
+
+pub amounts-more : (s : State) (totals : List Total) (project : List ℕ) (amounts : Amounts) → AreAmounts s totals → amounts ≡ usage_of s project
+    → AreAmounts s (totals ++ record { project = project; amounts = amounts } ∷ [])
+amounts-more s totals project amounts are is = record { known = each } where
   last : Total
   last = record { project = project; amounts = amounts }
 
@@ -120,3 +217,26 @@ totals-more s totals project amounts are is = record { known = each } where
   each other =
       subst (λ (found : Option Total). IfSome (option_map (λ (x : Total). x.amounts) found) (λ a. a ≡ usage_of s other))
       (sym (find-append (is_of other) totals (last ∷ []))) (at other (find (is_of other) totals) (are.known other))
+
+pub pools-more : (s : State) (totals : List PoolTotal) (project pool : List ℕ) (used : ℕ) → ArePools s totals → used ≡ used_on s project pool
+    → ArePools s (totals ++ record { project = project; pool = pool; used = used } ∷ [])
+pools-more s totals project pool used are is = record { known = each } where
+  last : PoolTotal
+  last = record { project = project; pool = pool; used = used }
+
+  alone : (other there : List ℕ) (b : Bool) → (bytes_eq project other && bytes_eq pool there) ≡ b
+      → IfSome (option_map (λ (x : PoolTotal). x.used) (cond b (Some last) None)) (λ n. n ≡ used_on s other there)
+  alone other there true names =
+      let two = both (bytes_eq project other) (bytes_eq pool there) names in
+      is ∙ ap (λ p. used_on s p pool) (same project other two.0) ∙ ap (used_on s other) (same pool there two.1)
+  alone other there false differs = tt
+
+  at : (other there : List ℕ) (found : Option PoolTotal) → IfSome (option_map (λ (x : PoolTotal). x.used) found) (λ n. n ≡ used_on s other there)
+      → IfSome (option_map (λ (x : PoolTotal). x.used) (option_or found (find (is_on other there) (last ∷ [])))) (λ n. n ≡ used_on s other there)
+  at other there None h = alone other there (bytes_eq project other && bytes_eq pool there) refl
+  at other there (Some x) h = h
+
+  each : (other there : List ℕ) → IfSome (known_on (totals ++ last ∷ []) other there) (λ n. n ≡ used_on s other there)
+  each other there =
+      subst (λ (found : Option PoolTotal). IfSome (option_map (λ (x : PoolTotal). x.used) found) (λ n. n ≡ used_on s other there))
+      (sym (find-append (is_on other there) totals (last ∷ []))) (at other there (find (is_on other there) totals) (are.known other there))

@@ -25,17 +25,17 @@ use Rattle.machine_laws.proofs.Base.{live-number}
 use Rattle.machine_laws.proofs.EndsShares.{told-same}
 use Rattle.machine_laws.proofs.SharesCores.{cores-work}
 use Rattle.core_reports.proofs.Reporting.{as_ended, failed-kept, cancelled-kept, succeeded-kept}
-use Rattle.size_values.specs.declared.amounts.Amounts.{Amounts}
-use Rattle.core_totals.specs.declared.totals.Total.{Total}
-use Rattle.core_totals.specs.Totals.{AreTotals}
 use Rattle.std.specs.Prelude.{IfSome}
+use Rattle.row_readings.specs.Footprints.{share_footprint}
+use Rattle.row_readings.specs.declared.amounts.Footprint.{Footprint}
 use Rattle.core_totals.specs.declared.ends.Counted.{Counted}
-use Rattle.core_totals.specs.Totals.{lowered}
-use Rattle.core_totals.specs.Ends.{given_back, leaves_usage, has_fall, fall_of, HasFall, IsCounted, after_success, after_status, after_end}
+use Rattle.core_totals.specs.declared.totals.Totals.{Totals}
+use Rattle.core_totals.specs.Totals.{AreTotals, lowered, nothing_known}
+use Rattle.core_totals.specs.Ends.{given_back, held_footprint, leaves_usage, has_fall, fall_of, HasFall, IsCounted, after_return, after_success, after_status, after_end}
 use Rattle.core_totals.proofs.Told.{totals-same, totals-none, totals-fallen}
-use Rattle.core_totals.proofs.Successes.{Falls, falls-told, falls-untold, leaves-usage, lowers-usage}
+use Rattle.core_totals.proofs.Successes.{leaves-usage, lowers-usage}
 use Rattle.core_totals.proofs.Shares.{share-held, totals-given_back}
-use Rattle.core_totals.proofs.Usage.{SameUsage, Loses, usage-cores, usage-told, told-usage, failed-loses, cancelled-loses, loses-told, loses-untold}
+use Rattle.core_totals.proofs.Usage.{SameUsage, Falls, Loses, falls-told, falls-untold, usage-cores, usage-told, told-usage, failed-loses, cancelled-loses, loses-told, loses-untold}
 
 -- What a report of an operation comes to: no operation ends, and no usage changes; or it fails or is cancelled, and what it
 -- claimed counts no more; or it succeeds.
@@ -133,7 +133,7 @@ module _ (s : State) (o : Operation Task) (moment : ℕ) (h : IsWhole s) (live :
   cancelling-comes no_memory (Some call) = none-reached s o.number
 
 stray-comes : (s : State) (n : ℕ) (outcome : Outcome) → Reaches s n (stray s n outcome)
-stray-comes s n well = reached s n _ (goes_on (λ project. refl) (λ m e. cc))
+stray-comes s n well = reached s n _ (goes_on (λ project k measure. refl) (λ m e. cc))
 stray-comes s n (keeper_failed rise) = none-reached s n
 stray-comes s n no_memory = none-reached s n
 
@@ -162,7 +162,7 @@ step-comes s n r moment outcome after h is = done-comes s n r moment outcome (li
 
 -- ---- totals after it
 
-module _ (s t : State) (n : ℕ) (untold : List Untold) (totals : List Total) (counted : Counted) (h : IsWhole s) (are : AreTotals s totals)
+module _ (s t : State) (n : ℕ) (untold : List Untold) (totals : Totals) (counted : Counted) (h : IsWhole s) (are : AreTotals s totals)
     (is : IsCounted s n counted) where
   -- as no operation ended
   pub still-totals : (r : Answer) → ((m : ℕ) → r ≢ answer.Ended m) → Comes s n r (telling untold t) → AreTotals t totals
@@ -181,23 +181,30 @@ module _ (s t : State) (n : ℕ) (untold : List Untold) (totals : List Total) (c
       → (has_fall o.work.deed ≡ true → Falls s t o.work.project (fall_of s o.work))
       → AreTotals t (after_success o.work counted.fall totals)
   success-totals o live leaves falls = by counted.fall is.fall where
-    at : (b : Bool) → leaves_usage o.work.deed ≡ b → AreTotals t (cond b totals [])
+    at : (b : Bool) → leaves_usage o.work.deed ≡ b → AreTotals t (cond b totals nothing_known)
     at true does = totals-same s t totals are (leaves does)
     at false not = totals-none t
 
-    by : (fall : Option Amounts) → IfSome fall (HasFall s (live_at s.operations n)) → AreTotals t (after_success o.work fall totals)
+    by : (fall : Option Footprint) → IfSome fall (HasFall s (live_at s.operations n)) → AreTotals t (after_success o.work fall totals)
     by None known = at (leaves_usage o.work.deed) refl
     by (Some fall) known =
         let has : HasFall s (Some o) fall = subst (λ x. HasFall s x fall) live known in
-        subst (λ a. AreTotals t (lowered o.work.project a totals)) (sym has.1)
+        subst (λ (f : Footprint). AreTotals t (lowered o.work.project f.amounts f.on totals)) (sym has.1)
         (totals-fallen s t totals are o.work.project (fall_of s o.work) (falls has.0))
 
   pub ended-totals : Comes s n (answer.Ended n) (telling untold t) → AreTotals t (after_end (kept_at t.operations n) counted totals)
   ended-totals (goes_on usage apart) = absurd (apart n refl)
   ended-totals (gives_back o now why moment live kept which ended loses) =
       subst IsAfter (sym (kept-told (as_ended o now why moment) kept)) (by which) where
-        given : AreTotals t (given_back o.work counted.share totals)
-        given = totals-given_back s t o (loses-untold s t o untold loses) totals counted.share are (is.share ∙ share-held s n o h live)
+        returned : AreTotals t (given_back o.work (share_footprint s o.work).amounts (share_footprint s o.work).on totals)
+        returned = totals-given_back s t o (loses-untold s t o untold loses) totals are
+
+        given-by : (share : Option Footprint) → IfSome share (λ f. f ≡ held_footprint s n) → AreTotals t (after_return o.work share totals)
+        given-by None known = totals-none t
+        given-by (Some f) known = subst (λ (x : Footprint). AreTotals t (given_back o.work x.amounts x.on totals)) (sym (known ∙ share-held s n o h live)) returned
+
+        given : AreTotals t (after_return o.work counted.share totals)
+        given = given-by counted.share is.share
 
         by : (now ≡ status.Failure) ⊎ (now ≡ status.Cancelled) → AreTotals t (after_status now o.work counted totals)
         by (inl e) = subst (λ x. AreTotals t (after_status x o.work counted totals)) (sym e) given

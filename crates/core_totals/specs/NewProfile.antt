@@ -37,7 +37,7 @@ with_new state profile = applied state (change.Put (row.Profile profile) ∷ [])
 
 -- Where all facts hold, each profile that is named is there, so that a new one changes nothing of what instances have:
 -- a rule on policy (F1 to F7) that the state with it breaks is one that it breaks alone in its project, and no rule on
--- what is counted (L0) or on limits (L1 to L8) is broken.
+-- what is counted (L0) or on limits (L1 to L9) is broken.
 pub record IsProfileJudgedAlone (state : State) (profile : Profile) : Type 0 where
   pub policy : policy_broken (with_new state profile) ≡ profile_forbidden (with_new state profile) profile
   pub counts : counts_broken (with_new state profile) ≡ None

@@ -6,6 +6,7 @@ use Rattle.std.specs.Option.{option_and_then, option_map_or, option_or}
 use Rattle.std.specs.Str.{bytes_eq}
 use Rattle.size_values.specs.declared.kinds.ObjectKind.{ObjectKind}
 use Rattle.size_values.specs.declared.kinds.ObjectKind.TheVariants as kind
+use Rattle.records.specs.declared.refusals.Refusal.{Refusal}
 use Rattle.records.specs.declared.rows.Project.{Project}
 use Rattle.records.specs.declared.rows.Row.TheVariants as row
 use Rattle.row_codec.specs.Reading.{is_slash}
@@ -19,7 +20,9 @@ use Rattle.row_machine.specs.machine.LimitRules.{counts_broken, limits_broken, p
 use Rattle.row_machine.specs.machine.PolicyRules.{policy_broken}
 use Rattle.row_machine.specs.machine.Rows.{default_name}
 use Rattle.row_machine.specs.machine.State.{State}
-use Rattle.row_machine.specs.machine.Usage.{usage_of, networks_of}
+use Rattle.row_machine.specs.machine.Usage.{loads, usage_of, networks_of}
+use Rattle.row_readings.specs.PoolLimits.{own_limits, pool_sums}
+use Rattle.row_readings.specs.declared.pool_limits.PoolLimit.{PoolLimit}
 use Rattle.rules_limits.specs.OneProject.{of_project, uses_over}
 use Rattle.rules_limits.specs.declared.one_project.InUse.{InUse}
 use Rattle.rules_policy.specs.Within.{policy_broken_in}
@@ -103,18 +106,26 @@ project_within state changes = option_or (project_of_all (are_profiles_shared st
 abbrev pub projects_of : State → List ℕ → List Project
 projects_of state name = filter (λ project. bytes_eq project.name name) state.projects
 
--- what a project uses of its limits
-abbrev pub in_use : State → List ℕ → InUse
-in_use state project = record { amounts = usage_of state project; networks = networks_of state project }
+-- what a project uses of its limits, and of these limited pools
+abbrev pub in_use : State → List ℕ → List PoolLimit → InUse
+in_use state project limits = record {
+  amounts = usage_of state project;
+  networks = networks_of state project;
+  pools = pool_sums (loads state) limits;
+}
+
+-- L1 to L9 of a project, by what is used of its limits under a name before a change and after it
+abbrev pub use_over : State → State → List ℕ → Project → Option Refusal
+use_over state later name project = uses_over (own_limits project) (in_use state name (own_limits project))
+    (in_use later name (own_limits project)) project
 
 -- Where all facts hold, changes within a project leave all that others have and use: what the state after them breaks of
--- the rules on policy (F1 to F7), on what is counted (L0) and on limits (L1 to L8), it breaks in that project. Where that
+-- the rules on policy (F1 to F7), on what is counted (L0) and on limits (L1 to L9), it breaks in that project. Where that
 -- gets another name, none is left under the old one.
 pub record IsProjectJudgedAlone (state later : State) (project : List ℕ) : Type 0 where
   pub policy : policy_broken later ≡ policy_broken_in later (projects_of later project)
   pub counts : counts_broken later ≡ of_project (project_without_amount later) later.projects project
-  pub limits : limits_broken state later
-      ≡ of_project (uses_over (in_use state project) (in_use later project)) later.projects project
+  pub limits : limits_broken state later ≡ of_project (use_over state later project) later.projects project
 
 abbrev pub ProjectsAreJudgedAlone : Type 0
 ProjectsAreJudgedAlone = (state : State) (changes : List RowChange) (project : List ℕ) → IsWhole state

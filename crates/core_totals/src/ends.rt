@@ -1,29 +1,30 @@
 //! What the ends of operations make of totals.
-ghost use Rattle.std.specs.Prelude.{◌≡◌, true, IfOk, IfSome};
-ghost use Rattle.std.specs.List.{find};
+ghost use Rattle.std.specs.Prelude.{◌≡◌, true, IfOk, IfSome, find};
 ghost use Rattle.std.specs.Option.{option_copied, option_map_or};
 ghost use Rattle.operations.specs.OperationTable.{kept_at};
-ghost use Rattle.size_values.specs.Amounts.{nothing};
-ghost use Rattle.row_machine.specs.machine.Claims.{claimed_instance, amounts_of_instance};
-ghost use Rattle.row_machine.specs.machine.Operations.{held_share, is_held_by};
-ghost use Rattle.core_totals.specs.Ends.{given_back, leaves_usage, has_fall, fall_of};
-ghost use Rattle.core_totals.specs.Ends.{IsCounted, after_success, after_end_of, after_end};
+ghost use Rattle.row_machine.specs.machine.Claims.{claimed_instance};
+ghost use Rattle.row_machine.specs.machine.Operations.{is_held_by};
+ghost use Rattle.row_readings.specs.Footprints.{no_footprint, instance_footprint};
+ghost use Rattle.core_totals.specs.Ends.{held_footprint, given_back, held_given_back, leaves_usage, has_fall, fall_of};
+ghost use Rattle.core_totals.specs.Ends.{IsCounted, after_return, after_success, after_end_of, after_end};
 
 use crate::totals::Totals;
 use core_reports::live_at;
 use operations::{Operation, Status};
 use reservations::Hold;
 use row_machine::Task;
-use row_readings::{StateRef, amounts_of_instance, claimed_instance, kept_at, project_of_row};
-use size_values::{Action, Amounts, Deed, NoMemory};
+use row_readings::{
+    Footprint, StateRef, claimed_instance, footprint_of_instance, kept_at, project_of_row,
+};
+use size_values::{Action, Amounts, Deed, NoMemory, PoolPart};
 use std::alloc::Global;
 
 /// What an operation counts for while it is live: the share that it holds, and by how much its success lowers what its
-/// project uses, where that is known.
-#[derive(Clone, Copy)]
+/// project uses, each where it is known.
+#[derive(Drop)]
 pub struct Counted {
-    share: Amounts,
-    fall: Option<Amounts>,
+    share: Option<Footprint>,
+    fall: Option<Footprint>,
 }
 
 // ---- before an end
@@ -35,13 +36,34 @@ fn hold_of(held: &[Hold], number: u64) -> Option<&Hold>
     held.iter().find(|hold| hold.op == number)
 }
 
-/// The share that an operation holds.
-pub fn held_share(view: &StateRef<'_>, number: u64) -> Amounts
-    ensures { result ≡ held_share view.now number }
+/// The share that a hold is of.
+fn share_in(alloc: Global, hold: &Hold) -> Result<Footprint, NoMemory>
+    ensures { IfOk result (λ f. f ≡ record { amounts = hold.now.share; on = hold.now.part }) }
+{
+    let on = hold.part.copy(alloc)?;
+    Ok(Footprint {
+        amounts: hold.share,
+        on,
+    })
+}
+
+/// The share that an operation holds, of its own.
+fn held_share(alloc: Global, view: &StateRef<'_>, number: u64) -> Result<Footprint, NoMemory>
+    ensures { IfOk result (λ f. f ≡ held_footprint view.now number) }
 {
     match hold_of(view.held, number) {
-        Some(hold) => hold.share,
-        None => Amounts::zero(),
+        Some(hold) => share_in(alloc, hold),
+        None => Ok(Footprint::none(alloc)),
+    }
+}
+
+/// The same where memory is not refused.
+fn known_share(alloc: Global, view: &StateRef<'_>, number: u64) -> Option<Footprint>
+    ensures { IfSome result (λ share. share ≡ held_footprint view.now number) }
+{
+    match held_share(alloc, view, number) {
+        Ok(share) => Some(share),
+        Err(NoMemory) => None,
     }
 }
 
@@ -66,35 +88,35 @@ fn has_fall(deed: Deed) -> bool
 }
 
 /// What the instance counts for that an operation would put, if it would put one.
-fn claimed_amounts(alloc: Global, view: &StateRef<'_>, work: &Task) -> Result<Amounts, NoMemory>
+fn claimed_footprint(alloc: Global, view: &StateRef<'_>, work: &Task) -> Result<Footprint, NoMemory>
     ensures { IfOk result
-        (λ a. a ≡ option_map_or (amounts_of_instance view.now) (claimed_instance work.now) nothing) }
+        (λ f. f ≡ option_map_or (instance_footprint view.now) (claimed_instance work.now) no_footprint) }
 {
     match claimed_instance(work) {
-        Some(row) => amounts_of_instance(alloc, view, row),
-        None => Ok(Amounts::zero()),
+        Some(row) => footprint_of_instance(alloc, view, row),
+        None => Ok(Footprint::none(alloc)),
     }
 }
 
 /// By how much it lowers what a project uses where its instance, which an operation is about, becomes what the
 /// operation would put, or goes.
-fn fall_of(alloc: Global, view: &StateRef<'_>, work: &Task) -> Result<Amounts, NoMemory>
-    ensures { IfOk result (λ a. a ≡ fall_of view.now work.now) }
+fn fall_of(alloc: Global, view: &StateRef<'_>, work: &Task) -> Result<Footprint, NoMemory>
+    ensures { IfOk result (λ f. f ≡ fall_of view.now work.now) }
 {
     let project = work.project.view();
     match view.instance_named(project, work.target.name.view()) {
         Some(row) => {
-            let before = amounts_of_instance(alloc, view, row)?;
-            let after = claimed_amounts(alloc, view, work)?;
-            Ok(before.excess(&after))
+            let before = footprint_of_instance(alloc, view, row)?;
+            let after = claimed_footprint(alloc, view, work)?;
+            Ok(before.above(&after))
         }
-        None => Ok(Amounts::zero()),
+        None => Ok(Footprint::none(alloc)),
     }
 }
 
 /// By how much the success of an operation lowers what its project uses. It is known only of one whose last call is
 /// handed out, whose deed changes or removes its target, and where memory was not refused.
-fn known_fall(alloc: Global, view: &StateRef<'_>, work: &Task) -> Option<Amounts>
+fn known_fall(alloc: Global, view: &StateRef<'_>, work: &Task) -> Option<Footprint>
     ensures { IfSome result (λ fall. (has_fall work.now.deed ≡ true) × (fall ≡ fall_of view.now work.now)) }
 {
     if !has_fall(work.deed) {
@@ -109,11 +131,11 @@ fn known_fall(alloc: Global, view: &StateRef<'_>, work: &Task) -> Option<Amounts
     }
 }
 
-/// What the operation of this number counts for. Memory that is refused is not missed.
+/// What the operation of this number counts for. Memory that is refused leaves it unknown.
 pub fn count(alloc: Global, view: &StateRef<'_>, number: u64) -> Counted
     ensures { IsCounted view.now number result }
 {
-    let share = held_share(view, number);
+    let share = known_share(alloc, view, number);
     match live_at(view, number) {
         Some(operation) => Counted {
             share,
@@ -126,12 +148,33 @@ pub fn count(alloc: Global, view: &StateRef<'_>, number: u64) -> Counted
 // ---- after it
 
 /// An operation that held this share ends, and all rows stay: what it claimed counts no more.
-pub fn give_back(totals: &mut Totals, work: &Task, share: &Amounts)
-    ensures { totals.new ≡ given_back work.now share.now totals.old }
+fn give_back(totals: &mut Totals, work: &Task, share: &Amounts, part: &PoolPart)
+    ensures { totals.new ≡ given_back work.now share.now part.now totals.old }
 {
     match &work.claim {
-        Some(row) => totals.lower(project_of_row(row), share),
+        Some(row) => totals.lower(project_of_row(row), share, part),
         None => {}
+    }
+}
+
+/// The operation of this number ends, of which this is the work, and all rows stay: what it holds of limits counts no
+/// more. It takes no memory.
+pub fn give_back_held(totals: &mut Totals, view: &StateRef<'_>, number: u64, work: &Task)
+    ensures { totals.new ≡ held_given_back view.now number work.now totals.old }
+{
+    match hold_of(view.held, number) {
+        Some(hold) => give_back(totals, work, &hold.share, &hold.part),
+        None => {}
+    }
+}
+
+/// An operation ends, and all rows stay: the share that it held goes back, where that is known.
+fn return_share(totals: &mut Totals, work: &Task, share: &Option<Footprint>)
+    ensures { totals.new ≡ after_return work.now share.now totals.old }
+{
+    match share {
+        Some(share) => give_back(totals, work, &share.amounts, &share.on),
+        None => totals.forget(),
     }
 }
 
@@ -151,11 +194,11 @@ fn leaves_usage(deed: Deed) -> bool
 }
 
 /// An operation has succeeded, which lowered what its project uses by this, where that is known.
-fn follow_success(totals: &mut Totals, work: &Task, fall: Option<Amounts>)
-    ensures { totals.new ≡ after_success work.now fall totals.old }
+fn follow_success(totals: &mut Totals, work: &Task, fall: &Option<Footprint>)
+    ensures { totals.new ≡ after_success work.now fall.now totals.old }
 {
     match fall {
-        Some(fall) => totals.lower(work.project.view(), &fall),
+        Some(fall) => totals.lower(work.project.view(), &fall.amounts, &fall.on),
         None => {
             if !leaves_usage(work.deed) {
                 totals.forget();
@@ -169,8 +212,10 @@ fn follow_end_of(totals: &mut Totals, operation: &Operation<Task>, counted: &Cou
     ensures { totals.new ≡ after_end_of operation.now counted.now totals.old }
 {
     match operation.status {
-        Status::Failure | Status::Cancelled => give_back(totals, &operation.work, &counted.share),
-        Status::Success => follow_success(totals, &operation.work, counted.fall),
+        Status::Failure | Status::Cancelled => {
+            return_share(totals, &operation.work, &counted.share);
+        }
+        Status::Success => follow_success(totals, &operation.work, &counted.fall),
         Status::Pending | Status::Running | Status::Cancelling => totals.forget(),
     }
 }

@@ -1,144 +1,93 @@
-ghost use Rattle.std.specs.Prelude.{◌≡◌, ◌+◌, ◌<◌, ◌≤◌, ◌^◌, ◌∷◌, ◌++◌, [], length, IfOk, IfSome, OnOk, OnErr};
-ghost use Rattle.std.specs.List.{position};
+//! What projects are known to use of their limits and of the pools that they limit.
+ghost use Rattle.std.specs.Prelude.{◌≡◌, ◌+◌, ◌<◌, ◌≤◌, ◌^◌, IfOk, IfSome};
 ghost use Rattle.size_values.specs.Amounts.{part};
 ghost use Rattle.size_values.specs.declared.amounts.Part.{Part};
 ghost use Rattle.rules_limits.specs.Limited.{limits_named};
 ghost use Rattle.rules_limits.specs.OneProject.{share_broken};
 ghost use Rattle.row_machine.specs.facts.Whole.{IsWhole};
-ghost use Rattle.row_machine.specs.machine.Usage.{usage_of};
-ghost use Rattle.core_totals.specs.Totals.{AreTotals, is_of, known, grown, lowered};
+ghost use Rattle.core_totals.specs.Alone.{all_beside};
+ghost use Rattle.core_totals.specs.Totals.{AreTotals, known, known_on, nothing_known, grown, lowered};
 
+use crate::amount_totals::AmountTotals;
+use crate::pool_totals::PoolTotals;
 use project_limits::Limits;
-use row_readings::{StateRef, usage_of};
-use rules_limits::needs_usage;
-use size_values::{Amounts, NoMemory, Text};
+use row_readings::{Footprint, StateRef};
+use rules_limits::Beside;
+use size_values::{Amounts, NoMemory, PoolPart};
 use std::alloc::Global;
-use std::marker::Model;
 
-/// What one project uses of its limits.
-#[derive(Drop)]
-pub struct Total {
-    project: Text,
-    amounts: Amounts,
-}
-
-/// What projects use of their limits, with what live operations claim. Contracts see the list of it. A project whose
-/// total is not there is not known; of several the first counts.
+/// What projects use of their limits, with what live operations claim, and of the pools that they limit. Nothing is
+/// known of a project, or of one on a pool, that was not asked for.
 #[derive(Drop)]
 pub struct Totals {
-    totals: Vec<Total>,
-}
-
-impl Model for Totals {
-    ghost use Rattle.std.specs.Prelude.{List};
-    ghost use Rattle.core_totals.specs.declared.totals.Total.{Total as TotalValue};
-
-    ghost Value = { List TotalValue };
-
-    ghost view = { λ t. t.totals.items };
-}
-
-/// The place of the total of a project.
-fn index_of(totals: &[Total], project: &str) -> Option<usize>
-    ensures place { result ≡ position (is_of project.now) totals.now }
-    ensures within { IfSome result (λ place. place < length totals.now) }
-{
-    totals
-        .iter()
-        .position(|total| total.project.view() == project)
+    amounts: AmountTotals,
+    pools: PoolTotals,
 }
 
 impl Totals {
     /// Of no project anything is known. It takes no memory.
     pub fn new(alloc: Global) -> Totals
-        ensures { result ≡ [] }
+        ensures { result ≡ nothing_known }
     {
         Totals {
-            totals: Vec::new(alloc),
+            amounts: AmountTotals::new(alloc),
+            pools: PoolTotals::new(alloc),
         }
     }
 
-    /// What the project of this name uses, where it is known.
-    pub fn known(&self, project: &str) -> Option<Amounts>
-        ensures { result ≡ known self.now project.now }
-    {
-        match self
-            .totals
-            .iter()
-            .find(|total| total.project.view() == project)
-        {
-            Some(total) => Some(total.amounts),
-            None => None,
-        }
-    }
-
-    /// From now on it is known what the project of this name uses. Where memory is refused, nothing is.
-    fn keep(&mut self, alloc: Global, project: &str, amounts: Amounts) -> Result<(), NoMemory>
-        ensures ok { OnOk result (self.new ≡ self.old ++ record { project = project.now; amounts = amounts } ∷ []) }
-        ensures err { OnErr result (self.new ≡ self.old) }
-    {
-        let project = Text::from_text(alloc, project)?;
-        self.totals.push(Total { project, amounts })?;
-        Ok(())
-    }
-
-    /// What the project of this name, which has these limits, uses, as far as a share is judged by it: where the share
-    /// is nothing, or the project has no limit, it is not looked for. Where it is not known, it is summed over all
-    /// rows, and known from then on.
+    /// What the project of this name, which has these limits, uses, as far as a share is judged by it. What is not known
+    /// of it is summed over its rows and claims, and known from then on.
     pub fn used_beside(
         &mut self,
         alloc: Global,
         view: &StateRef<'_>,
         name: &str,
         limits: Option<Limits>,
-        share: &Amounts,
-    ) -> Result<Amounts, NoMemory>
+        share: &Footprint,
+    ) -> Result<Beside, NoMemory>
         requires whole { IsWhole view.now }
         requires limits { limits ≡ limits_named view.now.projects name.now }
         requires totals { AreTotals view.now self.old }
-        ensures few { IfOk result (λ used. (k : Part) → part k used ≤ 2 ^ 127 + 2 ^ 126) }
+        ensures few { IfOk result (λ used. (k : Part) → part k used.amounts ≤ 2 ^ 127 + 2 ^ 126) }
+        ensures few_on_pool { IfOk result (λ used. used.on_pool ≤ 2 ^ 127 + 2 ^ 126) }
         ensures serves { IfOk result (λ used. share_broken view.now.projects name.now used share.now
-            ≡ share_broken view.now.projects name.now (usage_of view.now name.now) share.now) }
+            ≡ share_broken view.now.projects name.now (all_beside view.now name.now share.now.on.pool) share.now) }
         ensures totals { AreTotals view.now self.new }
     {
-        if !needs_usage(limits, share) {
-            return Ok(Amounts::zero());
-        }
-        if let Some(used) = self.known(name) {
-            return Ok(used);
-        }
-        let used = usage_of(alloc, view, name)?;
-        self.keep(alloc, name, used)?;
-        Ok(used)
+        let amounts = self
+            .amounts
+            .used_beside(alloc, view, name, limits, &share.amounts)?;
+        let on_pool = self.pools.used_beside(alloc, view, name, &share.on)?;
+        Ok(Beside { amounts, on_pool })
     }
 
-    /// What is known of the project of this name grows by a share. It takes no memory.
-    pub fn grow(&mut self, project: &str, share: &Amounts)
-        requires { IfSome (known self.old project.now) (λ a. (k : Part) → part k a + part k share.now < 2 ^ 128) }
-        ensures { self.new ≡ grown project.now share.now self.old }
+    /// What is known of the project of this name grows by a share: these amounts, and a part of them on a pool. It takes
+    /// no memory.
+    pub fn grow(&mut self, project: &str, amounts: &Amounts, on: &PoolPart)
+        requires amounts { IfSome (known self.old.amounts project.now)
+            (λ a. (k : Part) → part k a + part k amounts.now < 2 ^ 128) }
+        requires pools { IfSome (known_on self.old.pools project.now on.now.pool)
+            (λ used. used + on.now.disk < 2 ^ 128) }
+        ensures { self.new ≡ grown project.now amounts.now on.now self.old }
     {
-        let Some(place) = index_of(&self.totals, project) else {
-            return;
-        };
-        let total = &mut self.totals[place];
-        total.amounts = total.amounts.plus(share);
+        self.amounts.grow(project, amounts);
+        self.pools.grow(project, on);
     }
 
-    /// What is known of the project of this name falls by a share, which was counted in it. It takes no memory.
-    pub fn lower(&mut self, project: &str, share: &Amounts)
-        ensures { self.new ≡ lowered project.now share.now self.old }
+    /// What is known of the project of this name falls by a share, which was counted in it: by these amounts, and a part
+    /// of them on a pool. It takes no memory.
+    pub fn lower(&mut self, project: &str, amounts: &Amounts, on: &PoolPart)
+        ensures { self.new ≡ lowered project.now amounts.now on.now self.old }
     {
-        let Some(place) = index_of(&self.totals, project) else {
-            return;
-        };
-        let total = &mut self.totals[place];
-        total.amounts = total.amounts.excess(share);
+        self.amounts.lower(project, amounts);
+        self.pools.lower(project, on);
     }
 
     /// Of no project anything is known any more. It takes no memory.
     pub fn forget(&mut self)
-        ensures { self.new ≡ [] }
+        ensures { self.new ≡ nothing_known }
     {
-        self.totals.clear();
+        self.amounts.forget();
+        self.pools.forget();
     }
 }

@@ -32,7 +32,7 @@ use Rattle.row_machine.specs.declared.events.Event.{Event}
 use Rattle.row_machine.specs.declared.events.Event.TheVariants as event
 use Rattle.row_machine.specs.machine.Accept.{After, accepted, after_cancel, and_then, begun, cancel_or_read, carried_out, started, with_operation_notice, wait_or_read}
 use Rattle.row_machine.specs.machine.Changes.{applied}
-use Rattle.row_machine.specs.machine.Claims.{amounts_of_instance, share_of}
+use Rattle.row_machine.specs.machine.Claims.{amounts_of_instance, part_of_instance, part_of_share, share_of}
 use Rattle.row_machine.specs.machine.Deeds.{breaks_instance}
 use Rattle.row_machine.specs.machine.Plans.{Plan, nothing, changes, starts, plan_of}
 use Rattle.row_machine.specs.machine.Rules.{broken}
@@ -127,7 +127,7 @@ map-few f (x ∷ xs) = ap suc (map-few f xs)
 -- ---- a request
 
 wait-aside : (s : State) (c : Command) (w : What) (r : Recent) → wait_or_read (with_recent r s) c w ≡ wait_or_read s c w
-unfolding read usage_view used_by usage_of networks_of loads share_of amounts_of_instance
+unfolding read usage_view used_by usage_of networks_of loads share_of amounts_of_instance part_of_share part_of_instance
 wait-aside s c w r = refl
 
 -- what is answered at once, and changes nothing
@@ -151,7 +151,7 @@ cancels-or-reads s c moment (what.Cancel op) = cancels s op moment (cancel_answe
 cancels-or-reads s c moment other = reads s c other
 
 entered-aside : (s : State) (task : Task) (moment : ℕ) (r : Recent) → entered (with_recent r s) task moment ≡ with_recent r (entered s task moment)
-unfolding entered share_of amounts_of_instance
+unfolding entered share_of amounts_of_instance part_of_share part_of_instance
 entered-aside s task moment r = refl
 
 begins : (s : State) (task : Task) (moment : ℕ) → Leaves (λ r. begun (with_recent r s) task moment)

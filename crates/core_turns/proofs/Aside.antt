@@ -11,9 +11,9 @@ use Rattle.records.specs.declared.rows.Row.TheVariants as row
 use Rattle.row_machine.specs.declared.changes.RowChange.{RowChange}
 use Rattle.row_machine.specs.declared.changes.RowChange.TheVariants as change
 use Rattle.row_machine.specs.machine.Changes.{applied, changed, rows_put}
-use Rattle.row_machine.specs.machine.Claims.{judged_instances, judged_volumes, amounts_of_instance, share_of}
+use Rattle.row_machine.specs.machine.Claims.{judged_instances, judged_volumes, amounts_of_instance, part_of_instance, part_of_share, share_of}
 use Rattle.row_machine.specs.machine.Holders.{busy_with, holder_of, first_user_of}
-use Rattle.row_machine.specs.machine.LimitRules.{instance_without_amount, counts_broken, part_exceeds, networks_exceed, limits_broken}
+use Rattle.row_machine.specs.machine.LimitRules.{instance_without_amount, counts_broken, part_exceeds, networks_exceed, pools_exceed, limits_broken}
 use Rattle.row_machine.specs.machine.NameRules.{project_missing, what_is_missing, name_broken}
 use Rattle.row_machine.specs.machine.Plans.{Plan, nothing, changes, starts, plan_of}
 use Rattle.row_machine.specs.machine.PolicyRules.{forbids_instance, policy_broken, snapshot_blocked}
@@ -77,7 +77,7 @@ unfolding counts_broken instance_without_amount judged_instances judged_volumes
 counts-aside s r = refl
 
 limits-aside : (s t : State) (r : Recent) → limits_broken (with_recent r s) (with_recent r t) ≡ limits_broken s t
-unfolding limits_broken part_exceeds networks_exceed usage_of networks_of loads share_of amounts_of_instance
+unfolding limits_broken part_exceeds networks_exceed pools_exceed usage_of networks_of loads share_of amounts_of_instance part_of_share part_of_instance
 limits-aside s t r = refl
 
 tables-aside : (s : State) (rows : List Row) (r : Recent) → tables_broken (with_recent r s) rows ≡ tables_broken s rows
@@ -97,7 +97,7 @@ unfolding plan_of
 plan-aside s c moment r = refl
 
 pub read-aside : (s : State) (project : List ℕ) (w : What) (r : Recent) → read (with_recent r s) project w ≡ read s project w
-unfolding read usage_view used_by usage_of networks_of loads share_of amounts_of_instance
+unfolding read usage_view used_by usage_of networks_of loads share_of amounts_of_instance part_of_share part_of_instance
 read-aside s project w r = refl
 
 -- ---- all of them

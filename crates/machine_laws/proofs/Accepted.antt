@@ -10,7 +10,6 @@ use Rattle.plain_lists.proofs.Elements.{Mem-left, Mem-append, Each-none, Each-co
 use Rattle.plain_lists.proofs.FirstLemmas.{none-first_of}
 use Rattle.plain_lists.proofs.Searches.{find-some, find-mem}
 use Rattle.config_lists.proofs.Keys.{same}
-use Rattle.size_values.specs.declared.amounts.Part.{Part}
 use Rattle.records.specs.declared.refusals.Rule.{Rule}
 use Rattle.records.specs.declared.refusals.Rule.TheVariants as rule
 use Rattle.records.specs.declared.refusals.Refusal.{Refusal}
@@ -22,8 +21,8 @@ use Rattle.row_machine.specs.machine.State.{State}
 use Rattle.row_machine.specs.machine.Rows.{default_name, project_named, profile_named, is_project, project_names}
 use Rattle.row_machine.specs.machine.Homes.{is_on}
 use Rattle.row_machine.specs.machine.Expansions.{expanded_of}
-use Rattle.row_machine.specs.machine.Claims.{judged_instances, judged_volumes, amounts_of_instance, of_live, claimed_instance, claimed_volume, claimed_snapshot}
-use Rattle.row_machine.specs.machine.Usage.{used, loads, amount_for, instance_load, volume_load, claim_load}
+use Rattle.row_machine.specs.machine.Claims.{judged_instances, judged_volumes, amounts_of_instance, part_of_instance, of_live, claimed_instance, claimed_volume, claimed_snapshot}
+use Rattle.row_machine.specs.machine.Usage.{loads, instance_load, volume_load, claim_load}
 use Rattle.row_machine.specs.machine.SettingRules.{root_missing, profile_missing, devices_miss}
 use Rattle.row_machine.specs.machine.PolicyRules.{forbids_profile, forbids_instance}
 use Rattle.row_machine.specs.machine.LimitRules.{instance_without_amount, volume_lacks_amount}
@@ -32,6 +31,7 @@ use Rattle.row_machine.specs.facts.Whole.{IsWhole, HasReferences, AreWithin, cla
 use Rattle.machine_laws.proofs.NamesRise.{Rise-Distinct}
 use Rattle.machine_laws.proofs.NamesRows.{EachRow, rows-each, each-row}
 use Rattle.machine_laws.proofs.LimitsLess.{IsLess, within-less}
+use Rattle.machine_laws.proofs.Measures.{Measure, IsMeasure, measured, used_by}
 use Rattle.machine_laws.proofs.LimitsWithin.{within-limits}
 use Rattle.machine_laws.proofs.OpeningRules.{AreAccepted}
 use Rattle.machine_laws.specs.Reopening.{reopened}
@@ -57,15 +57,15 @@ module _ (s : State) (whole : IsWhole s) where
   abbrev t : State
   t = reopened s
 
-  used-less : (project : List ℕ) (k : Part) → used t project k ≤ used s project k
-  unfolding loads amounts_of_instance
-  used-less project k =
-      let f = amount_for project k in
+  used-less : (project : List ℕ) (k : Measure) → IsMeasure k → used_by t project k ≤ used_by s project k
+  unfolding loads amounts_of_instance part_of_instance
+  used-less project k measure =
+      let f = measured project k in
       let a = map (instance_load s) s.instances in
       let b = map volume_load s.volumes in
       let c = of_live (claim_load s) s in
-      let before : used s project k ≡ sum_by f (a ++ b) + sum_by f c = sum_by-append f (a ++ b) c in
-      let after : used t project k ≡ sum_by f (a ++ b) + 0 = sum_by-append f (a ++ b) [] in
+      let before : used_by s project k ≡ sum_by f (a ++ b) + sum_by f c = sum_by-append f (a ++ b) c in
+      let after : used_by t project k ≡ sum_by f (a ++ b) + 0 = sum_by-append f (a ++ b) [] in
       omega (arith, before, after)
 
   less : IsLess s t

@@ -8,6 +8,8 @@ use Rattle.plain_lists.specs.Edits.{dropped}
 use Rattle.size_values.specs.Amounts.{part, nothing, plus_of}
 use Rattle.size_values.specs.declared.amounts.Amounts.{Amounts}
 use Rattle.size_values.specs.declared.amounts.Part.{Part}
+use Rattle.size_values.specs.PoolParts.{no_part}
+use Rattle.size_values.specs.declared.pool_part.PoolPart.{PoolPart}
 use Rattle.size_values.proofs.AmountParts.{part-plus}
 use Rattle.reservations.specs.declared.books.Books.{Books}
 use Rattle.operations.specs.declared.operation.Operation.{Operation}
@@ -22,9 +24,9 @@ use Rattle.row_machine.specs.machine.Task.{Task}
 use Rattle.reservations.specs.declared.books.Hold.{Hold}
 use Rattle.row_machine.specs.machine.State.{State}
 use Rattle.row_machine.specs.machine.Changes.{applied}
-use Rattle.row_machine.specs.machine.Claims.{share_of}
+use Rattle.row_machine.specs.machine.Claims.{share_of, part_of_share}
 use Rattle.row_machine.specs.shown.Notices.{telling}
-use Rattle.row_machine.specs.machine.Operations.{is_held_by, held_share, converted, returned, entered, with_task, moved, handing_out, one_more_done, undone, ended, cancelled, failed, succeeded, success_changes, power_after, with_power_after, after_failure}
+use Rattle.row_machine.specs.machine.Operations.{is_held_by, held_share, held_on_pool, converted, returned, entered, with_task, moved, handing_out, one_more_done, undone, ended, cancelled, failed, succeeded, success_changes, power_after, with_power_after, after_failure}
 use Rattle.row_machine.specs.facts.Whole.{IsWhole, held_by}
 use Rattle.machine_laws.specs.Headline.{EndsWhole, SharesGoWhole}
 use Rattle.machine_laws.specs.Headline.EndsWhole.{became_its_objects, went_back}
@@ -43,11 +45,21 @@ share-held s n o held live =
     ∙ ap (λ h. option_map_or (λ (h : Hold). h.share) h nothing) (find-map (held_by s) (has_number n) (is_held_by n) s.operations.live (λ x. refl))
     ∙ ap (λ x. option_map_or (λ (h : Hold). h.share) (option_map (held_by s) x) nothing) live
 
+part-held : (s : State) (n : ℕ) (o : Operation Task) → s.held ≡ map (held_by s) s.operations.live → live_at s.operations n ≡ Some o
+    → held_on_pool s n ≡ part_of_share s o.work
+part-held s n o held live =
+    ap (λ hs. option_map_or (λ (h : Hold). h.part) (find (is_held_by n) hs) no_part) held
+    ∙ ap (λ h. option_map_or (λ (h : Hold). h.part) h no_part) (find-map (held_by s) (has_number n) (is_held_by n) s.operations.live (λ x. refl))
+    ∙ ap (λ x. option_map_or (λ (h : Hold). h.part) (option_map (held_by s) x) no_part) live
+
 -- ---- ends, where the state before has the same operations, shares and books
 
 module _ (s t : State) (o : Operation Task) (h : IsWhole s) (live : live_at s.operations o.number ≡ Some o) (same : HasSameBooking s t) where
   share : held_share t o.number ≡ share_of s o.work
   share = ap (λ hs. option_map_or (λ (h : Hold). h.share) (find (is_held_by o.number) hs) nothing) same.held ∙ share-held s o.number o h.shares live
+
+  on_pool : held_on_pool t o.number ≡ part_of_share s o.work
+  on_pool = ap (λ hs. option_map_or (λ (h : Hold). h.part) (find (is_held_by o.number) hs) no_part) same.held ∙ part-held s o.number o h.shares live
 
   kept : (now : Status) (why : OpFault) (moment : ℕ) → option_map (λ (x : Operation Task). x.status) (kept_at (ends o.number now why moment t.operations) o.number) ≡ Some now
   kept now why moment =
@@ -61,13 +73,19 @@ module _ (s t : State) (o : Operation Task) (h : IsWhole s) (live : live_at s.op
       → EndsWhole s (returned o.number (ended o.number now why moment t)) o
   ended-back now why moment which = went_back
       (elim which [ inl e ↦ inl (kept now why moment ∙ ap Some e) | inr e ↦ inr (kept now why moment ∙ ap Some e) ])
-      (λ k. grows t.books.returned k ∙ ap (λ (b : Books). part k b.returned + part k (share_of s o.work)) same.books)
-      (ap (λ (b : Books). b.converted) same.books)
+      (record {
+        parts = λ k. grows t.books.returned k ∙ ap (λ (b : Books). part k b.returned + part k (share_of s o.work)) same.books;
+        pools = ap (λ (p : PoolPart). t.books.pool_returned + p.disk) on_pool ∙ ap (λ (b : Books). b.pool_returned + (part_of_share s o.work).disk) same.books;
+      })
+      (record { amounts = ap (λ (b : Books). b.converted) same.books; pools = ap (λ (b : Books). b.pool_converted) same.books })
 
   pub ended-into : (moment : ℕ) → EndsWhole s (converted o.number (ended o.number status.Success fault.None moment t)) o
   ended-into moment = became_its_objects (kept status.Success fault.None moment)
-      (λ k. grows t.books.converted k ∙ ap (λ (b : Books). part k b.converted + part k (share_of s o.work)) same.books)
-      (ap (λ (b : Books). b.returned) same.books)
+      (record {
+        parts = λ k. grows t.books.converted k ∙ ap (λ (b : Books). part k b.converted + part k (share_of s o.work)) same.books;
+        pools = ap (λ (p : PoolPart). t.books.pool_converted + p.disk) on_pool ∙ ap (λ (b : Books). b.pool_converted + (part_of_share s o.work).disk) same.books;
+      })
+      (record { amounts = ap (λ (b : Books). b.returned) same.books; pools = ap (λ (b : Books). b.pool_returned) same.books })
 
 -- ---- notices leave all this
 
@@ -80,15 +98,27 @@ told-same ns s = telling-keeps (HasSameBooking s) (λ t some next same. record {
 told-ends : (s t : State) (ns : List Untold) (o : Operation Task) → EndsWhole s t o → EndsWhole s (telling ns t) o
 told-ends s t ns o (became_its_objects kept grown stands) = became_its_objects
     (subst (λ k. option_map (λ (x : Operation Task). x.status) (kept_at k o.number) ≡ Some status.Success) (sym (told-same ns t).operations) kept)
-    (λ k. ap (λ (b : Books). part k b.converted) (told-same ns t).books ∙ grown k)
-    (ap (λ (b : Books). b.returned) (told-same ns t).books ∙ stands)
+    (record {
+      parts = λ k. ap (λ (b : Books). part k b.converted) (told-same ns t).books ∙ grown.parts k;
+      pools = ap (λ (b : Books). b.pool_converted) (told-same ns t).books ∙ grown.pools;
+    })
+    (record {
+      amounts = ap (λ (b : Books). b.returned) (told-same ns t).books ∙ stands.amounts;
+      pools = ap (λ (b : Books). b.pool_returned) (told-same ns t).books ∙ stands.pools;
+    })
 told-ends s t ns o (went_back kept grown stands) = went_back
     (elim kept [
       | inl e ↦ inl (subst (λ k. option_map (λ (x : Operation Task). x.status) (kept_at k o.number) ≡ Some status.Failure) (sym (told-same ns t).operations) e)
       | inr e ↦ inr (subst (λ k. option_map (λ (x : Operation Task). x.status) (kept_at k o.number) ≡ Some status.Cancelled) (sym (told-same ns t).operations) e)
     ])
-    (λ k. ap (λ (b : Books). part k b.returned) (told-same ns t).books ∙ grown k)
-    (ap (λ (b : Books). b.converted) (told-same ns t).books ∙ stands)
+    (record {
+      parts = λ k. ap (λ (b : Books). part k b.returned) (told-same ns t).books ∙ grown.parts k;
+      pools = ap (λ (b : Books). b.pool_returned) (told-same ns t).books ∙ grown.pools;
+    })
+    (record {
+      amounts = ap (λ (b : Books). b.converted) (told-same ns t).books ∙ stands.amounts;
+      pools = ap (λ (b : Books). b.pool_converted) (told-same ns t).books ∙ stands.pools;
+    })
 
 -- ---- the three ends
 

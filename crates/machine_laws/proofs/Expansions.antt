@@ -12,12 +12,14 @@ use Rattle.row_machine.specs.machine.State.{State}
 use Rattle.row_machine.specs.machine.Rows.{profile_named}
 use Rattle.row_machine.specs.machine.Homes.{home_of}
 use Rattle.row_machine.specs.machine.Expansions.{layer_of, own_layer, layers_by, expanded_of}
-use Rattle.row_machine.specs.machine.Claims.{amounts_of_instance}
+use Rattle.row_machine.specs.machine.Claims.{amounts_of_instance, part_of_instance}
 use Rattle.row_machine.specs.machine.SettingRules.{root_missing, is_one}
-use Rattle.row_machine.specs.machine.LimitRules.{instance_without_amount, object_without_amount}
+use Rattle.plain_lists.specs.Firsts.{first}
+use Rattle.row_machine.specs.machine.LimitRules.{instance_without_amount, object_without_amount, object_without_size}
 use Rattle.project_limits.specs.Instance.{instance_amounts}
 use Rattle.project_limits.specs.Limits.{limits_of}
 use Rattle.project_limits.specs.Countable.{first_without_amount}
+use Rattle.project_limits.specs.Pools.{root_part, pool_without_size}
 use Rattle.config_lists.specs.Devices.{root_of}
 use Rattle.row_machine.specs.machine.Refusals.{on_name}
 use Rattle.records.specs.declared.refusals.Rule.TheVariants as rule
@@ -52,13 +54,27 @@ pub amounts-alike : {s t : State} {i : Instance} → IsAlike s t i → amounts_o
 unfolding amounts_of_instance
 amounts-alike {i} h = ap (λ (e : Expanded). instance_amounts i.kind e.config e.devices) (expanded-alike h)
 
+pub part-alike : {s t : State} {i : Instance} → IsAlike s t i → part_of_instance t i ≡ part_of_instance s i
+unfolding part_of_instance
+part-alike h = ap (λ (e : Expanded). root_part e.devices) (expanded-alike h)
+
+-- an instance counts for the same in both states
+pub record CountsAlike (s t : State) (i : Instance) : Type 0 where
+  pub amounts : amounts_of_instance t i ≡ amounts_of_instance s i
+  pub part : part_of_instance t i ≡ part_of_instance s i
+
+pub counts-alike : {s t : State} {i : Instance} → IsAlike s t i → CountsAlike s t i
+counts-alike h = record { amounts = amounts-alike h; part = part-alike h }
+
 pub root-alike : {s t : State} {i : Instance} → IsAlike s t i → root_missing t i ≡ root_missing s i
 unfolding root_missing
 root-alike {i} h = ap (λ (e : Expanded). if is_one (root_of e.devices) then None else Some (on_name rule.V4 i.name)) (expanded-alike h)
 
 pub without_amount-alike : {s t : State} {i : Instance} (p : Project) → IsAlike s t i → instance_without_amount t p i ≡ instance_without_amount s p i
 unfolding instance_without_amount
-without_amount-alike {i} p h = ap (λ (e : Expanded). object_without_amount p i.name (first_without_amount (limits_of p.config) i.kind e.config e.devices)) (expanded-alike h)
+without_amount-alike {i} p h =
+    ap (λ (e : Expanded). first (object_without_amount p i.name (first_without_amount (limits_of p.config) i.kind e.config e.devices)
+    ∷ object_without_size p i.name (pool_without_size p.config e.devices) ∷ [])) (expanded-alike h)
 
 pub forbids-alike : {s t : State} {i : Instance} (p : Project) (number : ℕ) → IsAlike s t i → forbids_instance t p number i ≡ forbids_instance s p number i
 unfolding forbids_instance

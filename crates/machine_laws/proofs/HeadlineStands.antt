@@ -1,5 +1,5 @@
 -- What the facts of a whole state say in the words of the promise.
-use Rattle.std.proofs.Common.{◌≡◌, ℕ, ◌≤◌, ◌==◌, Bool, true, false, cond, Option, Some, None, List, [], All, refl, sym, ap, subst, ◌∙◌}
+use Rattle.std.proofs.Common.{◌≡◌, ℕ, ◌≤◌, ◌==◌, Bool, true, false, cond, Option, Some, None, List, [], ◌∷◌, All, refl, sym, ap, subst, ◌∙◌}
 use Rattle.std.specs.Prelude.{IfSome}
 use Rattle.std.specs.Option.{option_and_then}
 use Rattle.std.proofs.lemmas.Bool.{eq-eqb}
@@ -21,9 +21,11 @@ use Rattle.restrictions.specs.Forbids.{first_forbidden}
 use Rattle.project_limits.specs.Admission.{limit_on}
 use Rattle.project_limits.specs.declared.sums.SumKey.{SumKey}
 use Rattle.project_limits.specs.Limits.{limits_of}
-use Rattle.plain_lists.proofs.FirstLemmas.{not_mapped}
+use Rattle.plain_lists.specs.Firsts.{first}
+use Rattle.plain_lists.proofs.FirstLemmas.{none_both, not_mapped}
+use Rattle.project_limits.specs.Pools.{pool_key}
 use Rattle.records.specs.declared.refusals.Rule.TheVariants as rule
-use Rattle.row_machine.specs.machine.LimitRules.{object_without_amount, sum_text, instance_without_amount, volume_lacks_amount}
+use Rattle.row_machine.specs.machine.LimitRules.{object_without_amount, object_without_size, sum_text, instance_without_amount, volume_lacks_amount}
 use Rattle.records.specs.declared.rows.Project.{Project}
 use Rattle.records.specs.declared.rows.Instance.{Instance}
 use Rattle.row_machine.specs.machine.State.{State}
@@ -53,13 +55,24 @@ used-part s project part_of.Disk = refl
 has_amounts : (p : Project) (name : List ℕ) (key : Option SumKey) → object_without_amount p name key ≡ None → key ≡ None
 has_amounts p name key e = not_mapped (λ k. on_key_of rule.L0 (sum_text k) name p.name) key e
 
+has_size : (p : Project) (name : List ℕ) (pool : Option (List ℕ)) → object_without_size p name pool ≡ None → pool ≡ None
+has_size p name pool e = not_mapped (λ limited. on_key_of rule.L0 (pool_key limited) name p.name) pool e
+
+both : (p : Project) (name : List ℕ) {key : Option SumKey} {pool : Option (List ℕ)}
+    → first (object_without_amount p name key ∷ object_without_size p name pool ∷ []) ≡ None → (key ≡ None) × (pool ≡ None)
+both p name {key} {pool} e =
+    let first_none = none_both (object_without_amount p name key) _ e in
+    let then_none = none_both (object_without_size p name pool) None first_none.1 in
+    (has_amounts p name key first_none.0, has_size p name pool then_none.0)
+
 keeps-limits : (s : State) (p : Project) → IsWithin s p → KeepsLimits s p
 unfolding instance_without_amount volume_lacks_amount
 keeps-limits s p h = record {
   usage = λ k. subst (λ n. IfSome (limit_on k (limits_of p.config)) (λ limit. n ≤ limit)) (sym (used-part s p.name k)) (h.parts k);
   networks = h.networks;
-  instances = Each-map (λ i none of. has_amounts p i.name _ (none of)) h.instances;
-  volumes = Each-map (λ v none of. has_amounts p v.name _ (none of)) h.volumes;
+  pools = h.pools;
+  instances = Each-map (λ i none of. both p i.name (none of)) h.instances;
+  volumes = Each-map (λ v none of. both p v.name (none of)) h.volumes;
 }
 
 -- ---- policy
@@ -99,5 +112,5 @@ stands s h sorted = record {
   limits = Each-map (keeps-limits s) h.limits.limits;
   policy = Each-map (keeps-policy s) h.limits.policy;
   instances = record { at = λ i m. has-layers s i (layers-sorted s i sorted m) };
-  books = h.books;
+  books = record { parts = h.books.parts; pools = h.books.pools };
 }

@@ -1,5 +1,7 @@
 pub mod Cases
 pub mod Found
+pub mod Measures
+pub mod LimitedPools
 pub mod Judged
 pub mod Told
 pub mod Commands

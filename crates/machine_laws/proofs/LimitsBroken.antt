@@ -1,5 +1,5 @@
 -- A state that breaks no rule on policy, counts and limits stands within its limits and its policy.
-use Rattle.std.proofs.Common.{◌≡◌, ℕ, ◌+◌, ◌≤◌, Bool, true, false, cond, Option, Some, None, List, [], ◌∷◌, ◌⊎◌, refl, sym, ◌∙◌, ap, arith, inl, inr}
+use Rattle.std.proofs.Common.{◌≡◌, ℕ, ◌+◌, ◌≤◌, Bool, true, false, cond, Option, Some, None, List, [], ◌∷◌, ◌⊎◌, refl, sym, ◌∙◌, ap, subst, arith, inl, inr}
 use Rattle.std.specs.Prelude.{IfSome, filter, nat_lt}
 use Rattle.std.specs.Option.{option_to_list}
 use Rattle.std.specs.Str.{bytes_eq}
@@ -19,6 +19,8 @@ use Rattle.project_limits.specs.declared.admission.LimitKey.TheVariants as limit
 use Rattle.project_limits.specs.declared.admission.Over.{Over}
 use Rattle.project_limits.specs.Admission.{exceeded, limit_on, key_of, parts}
 use Rattle.project_limits.specs.Limits.{limits_of}
+use Rattle.project_limits.specs.Pools.{limited_pools, pool_limit}
+use Rattle.machine_laws.proofs.LimitedPools.{limited-there}
 use Rattle.operations.specs.declared.operation.Operation.{Operation}
 use Rattle.records.specs.declared.rows.Project.{Project}
 use Rattle.records.specs.declared.rows.Profile.{Profile}
@@ -27,8 +29,8 @@ use Rattle.records.specs.declared.rows.Instance.{Instance}
 use Rattle.row_machine.specs.machine.Task.{Task}
 use Rattle.row_machine.specs.machine.State.{State}
 use Rattle.row_machine.specs.machine.Claims.{of_live, claimed_instance, claimed_volume, judged_instances, judged_volumes}
-use Rattle.row_machine.specs.machine.Usage.{used, networks_of}
-use Rattle.row_machine.specs.machine.LimitRules.{limit_exceeded, over_refusal, part_exceeds, networks_exceed, limits_broken, instance_without_amount, volume_lacks_amount, claim_without_amount, project_without_amount, counts_broken}
+use Rattle.row_machine.specs.machine.Usage.{used, used_on, networks_of}
+use Rattle.row_machine.specs.machine.LimitRules.{limit_exceeded, over_refusal, pool_refusal, pool_exceeds, part_exceeds, networks_exceed, pools_exceed, limits_broken, instance_without_amount, volume_lacks_amount, claim_without_amount, project_without_amount, counts_broken}
 use Rattle.row_machine.specs.machine.PolicyRules.{forbids_profile, forbids_instance, project_forbids, policy_broken, subject_of}
 use Rattle.row_machine.specs.facts.Whole.{AreWithin}
 use Rattle.machine_laws.proofs.LimitsForbidden.{rule_numbers, is_rule, forbids-none, rule-or_not}
@@ -47,10 +49,10 @@ Mem-filter {X} p x (y ∷ ys) m is = at (p y) refl m (λ n. Mem-filter p x ys n 
 -- ---- limits
 
 -- of one number: what is used after is within the limit
-exceeds-not : (p : Project) (key : LimitKey) (limit : Option ℕ) (before after : ℕ) → limit_exceeded p key limit before after ≡ None → IfSome limit (λ l. after ≤ l)
-exceeds-not p key None before after h = tt
-exceeds-not p key (Some l) before after h =
-    at (nat_lt l (before + amount_above after before)) refl (not_mapped (over_refusal p) (exceeded key (Some l) before (amount_above after before)) h) where
+not-over : (key : LimitKey) (limit : Option ℕ) (before after : ℕ) → exceeded key limit before (amount_above after before) ≡ None → IfSome limit (λ l. after ≤ l)
+not-over key None before after h = tt
+not-over key (Some l) before after h =
+    at (nat_lt l (before + amount_above after before)) refl h where
       within : nat_lt l (before + amount_above after before) ≡ false → after ≤ l
       within e = grind (arith, nat_tests)
 
@@ -58,6 +60,9 @@ exceeds-not p key (Some l) before after h =
           → cond {A = Option Over} b (Some (record { key = key; used = before; asked = amount_above after before; limit = l })) None ≡ None → after ≤ l
       at true e k = cc
       at false e k = within e
+
+exceeds-not : (p : Project) (key : LimitKey) (limit : Option ℕ) (before after : ℕ) → limit_exceeded p key limit before after ≡ None → IfSome limit (λ l. after ≤ l)
+exceeds-not p key limit before after h = not-over key limit before after (not_mapped (over_refusal p) (exceeded key limit before (amount_above after before)) h)
 
 every-part : {P : Part → Type 0} → Each P parts → (k : Part) → P k
 every-part e Instances = e.at Instances (inl refl)
@@ -81,9 +86,27 @@ module _ (s later : State) where
   unfolding limits_broken networks_exceed
   limits-networks h p m =
       let both = none_both (first_of (λ part. first_of (part_exceeds s later part) later.projects) parts) _ h in
-      let of = none_both (first_of (networks_exceed s later) later.projects) None both.1 in
+      let of = none_both (first_of (networks_exceed s later) later.projects) _ both.1 in
       let at = first_of-none (networks_exceed s later) later.projects of.0 in
       exceeds-not p limit_key.Networks (limits_of p.config).networks (networks_of s p.name) (networks_of later p.name) (at.at p m)
+
+  limits-pools : limits_broken s later ≡ None → (p : Project) → Mem p later.projects → (pool : List ℕ) → IfSome (pool_limit p.config pool) (λ limit. used_on later p.name pool ≤ limit)
+  unfolding limits_broken pools_exceed
+  limits-pools h p m pool = at (pool_limit p.config pool) refl where
+    listed : first_of (pool_exceeds s later p) (limited_pools p.config) ≡ None
+    listed =
+        let both = none_both (first_of (λ part. first_of (part_exceeds s later part) later.projects) parts) _ h in
+        let more = none_both (first_of (networks_exceed s later) later.projects) _ both.1 in
+        let of = none_both (first_of (pools_exceed s later) later.projects) None more.1 in
+        (first_of-none (pools_exceed s later) later.projects of.0).at p m
+
+    at : (limit : Option ℕ) → pool_limit p.config pool ≡ limit → IfSome limit (λ l. used_on later p.name pool ≤ l)
+    at None is = tt
+    at (Some l) is =
+        let one = (first_of-none (pool_exceeds s later p) (limited_pools p.config) listed).at pool (limited-there p.config pool l is) in
+        subst (λ limit. IfSome limit (λ n. used_on later p.name pool ≤ n)) is
+        (not-over limit_key.DiskOnPool (pool_limit p.config pool) (used_on s p.name pool) (used_on later p.name pool)
+        (not_mapped (pool_refusal p.name pool) (exceeded limit_key.DiskOnPool (pool_limit p.config pool) (used_on s p.name pool) (amount_above (used_on later p.name pool) (used_on s p.name pool))) one))
 
 -- ---- counts
 
@@ -181,6 +204,7 @@ within-judged s later policy counts limits = record {
     at = λ p m. record {
       parts = limits-parts s later limits p m;
       networks = limits-networks s later limits p m;
+      pools = limits-pools s later limits p m;
       instances = record { at = λ i n is. counted-instance later counts p m i n is };
       volumes = record { at = λ v n is. counted-volume later counts p m v n is };
     };

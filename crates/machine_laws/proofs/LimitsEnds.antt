@@ -11,10 +11,10 @@ use Rattle.plain_lists.proofs.EditLemmas.{dropped-Puts}
 use Rattle.plain_lists.proofs.Readings.{sum_by-same}
 use Rattle.plain_lists.proofs.Searches.{find-some}
 use Rattle.config_lists.proofs.Keys.{same, bytes_eq-itself}
-use Rattle.size_values.specs.Amounts.{part, nothing, excess_of}
+use Rattle.size_values.specs.Amounts.{nothing, excess_of}
+use Rattle.size_values.specs.PoolParts.{no_part, part_above}
 use Rattle.size_values.specs.declared.amounts.Amounts.{Amounts}
-use Rattle.size_values.specs.declared.amounts.Part.{Part}
-use Rattle.size_values.proofs.AmountParts.{part-excess}
+use Rattle.size_values.specs.declared.pool_part.PoolPart.{PoolPart}
 use Rattle.size_values.specs.declared.kinds.Deed.{Deed}
 use Rattle.size_values.specs.declared.kinds.Deed.TheVariants as deed
 use Rattle.size_values.specs.declared.kinds.ObjectKind.TheVariants as kind
@@ -31,65 +31,79 @@ use Rattle.row_machine.specs.machine.State.{State}
 use Rattle.row_machine.specs.machine.Rows.{is_instance, is_volume, instance_named, instance_names, volume_names, with_instance, with_volume, texts_before}
 use Rattle.row_machine.specs.machine.Changes.{has_key}
 use Rattle.row_machine.specs.machine.Expansions.{expanded_of}
-use Rattle.row_machine.specs.machine.Claims.{claimed_instance, replaced_instance, amounts_of_instance, amounts_of, share_of, share_over, project_of_row}
+use Rattle.row_machine.specs.machine.Claims.{claimed_instance, replaced_instance, amounts_of_instance, amounts_of, part_of_instance, part_of_row, part_of_share, part_over, share_of, share_over, project_of_row}
 use Rattle.row_machine.specs.shown.Urls.{target_of}
-use Rattle.row_machine.specs.machine.Usage.{used, amount_for}
+use Rattle.machine_laws.proofs.Expansions.{CountsAlike}
+use Rattle.machine_laws.proofs.Measures.{Measure, IsMeasure, measured, used_by}
+use Rattle.machine_laws.proofs.SharesAlike.{HoldsAlike}
 use Rattle.row_machine.specs.facts.Whole.{IsWhole, IsByDeed, IsPlaced, IsRenamed}
 use Rattle.row_machine.specs.machine.Deeds.{claim_kind, replaces_target}
 use Rattle.machine_laws.proofs.Found.{instance-found, some-is}
 use Rattle.machine_laws.proofs.LimitsRows.{Tables, tables, IsDone, stays, puts_volume, puts_instance, drops_instance, renames_instance_to, renames_none}
 use Rattle.machine_laws.proofs.LimitsSums.{instance_part, volume_part, claim_part, used-split, sum-instead, sum-more, sum-put, sum-dropped}
 use Rattle.machine_laws.proofs.SharesApart.{instance-key, instance-row, instance-so}
-use Rattle.machine_laws.proofs.SharesSuccess.{amounts-tables, done-projects}
+use Rattle.machine_laws.proofs.SharesSuccess.{counts-tables, done-projects}
 use Rattle.machine_laws.proofs.ExpansionsApart.{fails-by}
 use Rattle.std.proofs.lemmas.Bool.{false≢true}
 use Rattle.plain_lists.proofs.Elements.{Each-head, Each-tail, Each-map}
 
 -- ---- what an operation holds of a project
 
--- by its claim and its share
-abbrev pub share_part : List ℕ → Part → Row → Amounts → ℕ
-share_part project k r share = amount_for project k (record { project = project_of_row r; amounts = share })
+-- by its claim, its share, and the part of this on a pool
+abbrev pub share_part : List ℕ → Measure → Row → Amounts → PoolPart → ℕ
+share_part project k r share on = measured project k (record { project = project_of_row r; amounts = share; on = on })
 
-claim-part : (s : State) (project : List ℕ) (k : Part) (o : Operation Task) (r : Row) → o.work.claim ≡ Some r
-    → claim_part s project k o ≡ share_part project k r (share_over s r (replaced_instance s o.work))
-unfolding share_of
-claim-part s project k o r is = ap (λ claim. option_map_or (amount_for project k)
-    (option_map (λ new. record { project = project_of_row new; amounts = option_map_or (λ n. share_over s n (replaced_instance s o.work)) claim nothing }) claim) 0) is
+claim-part : (s : State) (project : List ℕ) (k : Measure) (o : Operation Task) (r : Row) → o.work.claim ≡ Some r
+    → claim_part s project k o ≡ share_part project k r (share_over s r (replaced_instance s o.work)) (part_over s r (replaced_instance s o.work))
+unfolding share_of part_of_share
+claim-part s project k o r is = ap (λ claim. option_map_or (measured project k)
+    (option_map (λ new. record {
+      project = project_of_row new;
+      amounts = option_map_or (λ n. share_over s n (replaced_instance s o.work)) claim nothing;
+      on = option_map_or (λ n. part_over s n (replaced_instance s o.work)) claim no_part;
+    }) claim) 0) is
 
 -- a share without a row that is replaced is what the claimed row counts for
-share-new : (s : State) (project : List ℕ) (k : Part) (o : Operation Task) (r : Row) → o.work.claim ≡ Some r → replaced_instance s o.work ≡ None
-    → claim_part s project k o ≡ share_part project k r (amounts_of s r)
-share-new s project k o r is none = claim-part s project k o r is ∙ ap (λ old. share_part project k r (share_over s r old)) none
+pub share-new : (s : State) (project : List ℕ) (k : Measure) (o : Operation Task) (r : Row) → o.work.claim ≡ Some r → replaced_instance s o.work ≡ None
+    → claim_part s project k o ≡ share_part project k r (amounts_of s r) (part_of_row s r)
+share-new s project k o r is none = claim-part s project k o r is ∙ ap (λ old. share_part project k r (share_over s r old) (part_over s r old)) none
 
 -- and with one of its project it is the excess
-pub excess-part : (s : State) (project : List ℕ) (k : Part) (o : Operation Task) (i old : Instance) → o.work.claim ≡ Some (row.Instance i)
+pub excess-part : (s : State) (project : List ℕ) (k : Measure) (o : Operation Task) (i old : Instance) → o.work.claim ≡ Some (row.Instance i)
     → replaced_instance s o.work ≡ Some old → old.project ≡ i.project
-    → claim_part s project k o ≡ share_part project k (row.Instance i) (excess_of (amounts_of_instance s i) (amounts_of_instance s old))
+    → claim_part s project k o
+    ≡ share_part project k (row.Instance i) (excess_of (amounts_of_instance s i) (amounts_of_instance s old)) (part_above (part_of_instance s i) (part_of_instance s old))
 excess-part s project k o i old is replaced own =
     claim-part s project k o (row.Instance i) is
-    ∙ ap (λ r. share_part project k (row.Instance i) (share_over s (row.Instance i) r)) replaced
-    ∙ ap (λ b. share_part project k (row.Instance i) (cond b (excess_of (amounts_of_instance s i) (amounts_of_instance s old)) (amounts_of_instance s i)))
+    ∙ ap (λ r. share_part project k (row.Instance i) (share_over s (row.Instance i) r) (part_over s (row.Instance i) r)) replaced
+    ∙ ap (λ b. share_part project k (row.Instance i)
+    (cond b (excess_of (amounts_of_instance s i) (amounts_of_instance s old)) (amounts_of_instance s i))
+    (cond b (part_above (part_of_instance s i) (part_of_instance s old)) (part_of_instance s i)))
     (ap (λ p. bytes_eq p i.project) own ∙ bytes_eq-itself i.project)
 
-share-excess : (s : State) (project : List ℕ) (k : Part) (o : Operation Task) (i old : Instance) → o.work.claim ≡ Some (row.Instance i)
+share-excess : (s : State) (project : List ℕ) (k : Measure) → IsMeasure k → (o : Operation Task) (i old : Instance) → o.work.claim ≡ Some (row.Instance i)
     → replaced_instance s o.work ≡ Some old → old.project ≡ i.project
     → instance_part s project k i ≤ claim_part s project k o + instance_part s project k old
-share-excess s project k o i old is replaced own = at (bytes_eq i.project project) refl where
-  share : claim_part s project k o ≡ share_part project k (row.Instance i) (excess_of (amounts_of_instance s i) (amounts_of_instance s old))
-  share = excess-part s project k o i old is replaced own
+share-excess s project k measure o i old is replaced own = at (bytes_eq i.project project) refl where
+  new_counts : ℕ
+  new_counts = k (amounts_of_instance s i) (part_of_instance s i)
+
+  old_counts : ℕ
+  old_counts = k (amounts_of_instance s old) (part_of_instance s old)
+
+  above : ℕ
+  above = k (excess_of (amounts_of_instance s i) (amounts_of_instance s old)) (part_above (part_of_instance s i) (part_of_instance s old))
 
   at : (b : Bool) → bytes_eq i.project project ≡ b → instance_part s project k i ≤ claim_part s project k o + instance_part s project k old
   at false e =
-      let none : instance_part s project k i ≡ 0 = ap (λ b. cond b (part k (amounts_of_instance s i)) 0) e in
+      let none : instance_part s project k i ≡ 0 = ap (λ b. cond b new_counts 0) e in
       omega (arith, none)
   at true e =
-      let new : instance_part s project k i ≡ part k (amounts_of_instance s i) = ap (λ b. cond b (part k (amounts_of_instance s i)) 0) e in
-      let was : instance_part s project k old ≡ part k (amounts_of_instance s old) =
-      ap (λ b. cond b (part k (amounts_of_instance s old)) 0) (ap (λ p. bytes_eq p project) own ∙ e) in
-      let held : claim_part s project k o ≡ part k (amounts_of_instance s i) - part k (amounts_of_instance s old) =
-      share ∙ ap (λ b. cond b (part k (excess_of (amounts_of_instance s i) (amounts_of_instance s old))) 0) e
-      ∙ part-excess k (amounts_of_instance s i) (amounts_of_instance s old) in
+      let new : instance_part s project k i ≡ new_counts = ap (λ b. cond b new_counts 0) e in
+      let was : instance_part s project k old ≡ old_counts = ap (λ b. cond b old_counts 0) (ap (λ p. bytes_eq p project) own ∙ e) in
+      let held : claim_part s project k o ≡ new_counts - old_counts =
+      excess-part s project k o i old is replaced own ∙ ap (λ b. cond b above 0) e
+      ∙ measure.excess (amounts_of_instance s i) (amounts_of_instance s old) (part_of_instance s i) (part_of_instance s old) in
       omega (arith, new, was, held)
 
 -- ---- rows after a success
@@ -108,11 +122,11 @@ volume-new deed.Unsnap h = refl
 volume-new deed.CopyVolume h = refl
 
 -- a renamed instance counts for the same
-renamed-amounts : (s : State) (i : Instance) (name : List ℕ) → amounts_of_instance s (record i { name = name }) ≡ amounts_of_instance s i
-unfolding amounts_of_instance expanded_of
-renamed-amounts s i name = refl
+renamed-part : (s : State) (project : List ℕ) (k : Measure) (i : Instance) (name : List ℕ) → instance_part s project k (record i { name = name }) ≡ instance_part s project k i
+unfolding amounts_of_instance part_of_instance expanded_of
+renamed-part s project k i name = refl
 
-module _ (s : State) (o : Operation Task) (h : IsWhole s) (live : live_at s.operations o.number ≡ Some o) (project : List ℕ) (k : Part) where
+module _ (s : State) (o : Operation Task) (h : IsWhole s) (live : live_at s.operations o.number ≡ Some o) (project : List ℕ) (k : Measure) (measure : IsMeasure k) where
   o_live : Mem o s.operations.live
   o_live = (find-some (has_number o.number) s.operations.live o live).0
 
@@ -166,7 +180,7 @@ module _ (s : State) (o : Operation Task) (h : IsWhole s) (live : live_at s.oper
         omega (arith, more, share)
     at (Some old) found replaced =
         let instead = sum-instead a (is_instance i.project i.name) (λ y. texts_before (instance_names i) (instance_names y)) i old s.instances found in
-        let share = share-excess s project k o i old is replaced (instance-found s.instances i.project i.name old found).0 in
+        let share = share-excess s project k measure o i old is replaced (instance-found s.instances i.project i.name old found).0 in
         omega (arith, instead, share)
 
     by : (does : Bool) → replaces_target o.work.deed ≡ does → RowsLess (record (tables s) { instances = with_instance i s.instances })
@@ -226,8 +240,7 @@ module _ (s : State) (o : Operation Task) (h : IsWhole s) (live : live_at s.oper
       let put = sum-put a (is_instance i.project i.name) (λ y. texts_before (instance_names i) (instance_names y)) i
       (dropped (λ r. has_key (two_names old.project old.name) (row.Instance r)) s.instances) in
       let renamed : record i { name = o.work.target.name } ≡ old = some-is (renames-target i is rename ∙ found) in
-      let same_amounts : a i ≡ a old =
-      ap (λ (x : Amounts). amount_for project k (record { project = i.project; amounts = x })) (sym (renamed-amounts s i o.work.target.name)) ∙ ap a renamed in
+      let same_amounts : a i ≡ a old = sym (renamed-part s project k i o.work.target.name) ∙ ap a renamed in
       omega (arith, was, put, same_amounts)
 
   rows-less : {later : Tables} → IsDone (tables s) o.work later → RowsLess later
@@ -241,17 +254,26 @@ module _ (s : State) (o : Operation Task) (h : IsWhole s) (live : live_at s.oper
 -- ---- usage
 
 -- the claims of the others count for the same
-pub claims-same : (s t : State) (project : List ℕ) (k : Part) (xs : List (Operation Task)) → Each (λ (x : Operation Task). share_of t x.work ≡ share_of s x.work) xs
+pub claims-same : (s t : State) (project : List ℕ) (k : Measure) (xs : List (Operation Task)) → Each (λ (x : Operation Task). HoldsAlike s t x.work) xs
     → sum_by (claim_part t project k) xs ≡ sum_by (claim_part s project k) xs
-claims-same s t project k xs same = sum_by-same (claim_part t project k) (claim_part s project k) xs
-    (Each-map (λ x e. ap (λ share. option_map_or (amount_for project k) (option_map (λ new. record { project = project_of_row new; amounts = share }) x.work.claim) 0) e) same)
+claims-same s t project k xs same = sum_by-same (claim_part t project k) (claim_part s project k) xs (Each-map (λ x e. one x e) same) where
+  one : (x : Operation Task) → HoldsAlike s t x.work → claim_part t project k x ≡ claim_part s project k x
+  one x e =
+      ap (λ share. option_map_or (measured project k) (option_map (λ new. record { project = project_of_row new; amounts = share; on = part_of_share t x.work }) x.work.claim) 0) e.share
+      ∙ ap (λ part. option_map_or (measured project k) (option_map (λ new. record { project = project_of_row new; amounts = share_of s x.work; on = part }) x.work.claim) 0) e.part
+
+-- and so do instances
+pub instance-same : (s t : State) (project : List ℕ) (k : Measure) (i : Instance) → CountsAlike s t i → instance_part t project k i ≡ instance_part s project k i
+instance-same s t project k i e =
+    ap (λ x. measured project k (record { project = i.project; amounts = x; on = part_of_instance t i })) e.amounts
+    ∙ ap (λ x. measured project k (record { project = i.project; amounts = amounts_of_instance s i; on = x })) e.part
 
 -- after a success
 pub used-done : (s : State) (o : Operation Task) (t : State) → IsWhole s → live_at s.operations o.number ≡ Some o → IsDone (tables s) o.work (tables t)
     → t.operations.live ≡ dropped (has_number o.number) s.operations.live
-    → Each (λ (x : Operation Task). share_of t x.work ≡ share_of s x.work) (dropped (has_number o.number) s.operations.live)
-    → (project : List ℕ) (k : Part) → used t project k ≤ used s project k
-used-done s o t h live done rest same project k =
+    → Each (λ (x : Operation Task). HoldsAlike s t x.work) (dropped (has_number o.number) s.operations.live)
+    → (project : List ℕ) (k : Measure) → IsMeasure k → used_by t project k ≤ used_by s project k
+used-done s o t h live done rest same project k measure =
     let before = used-split s project k in
     let after = used-split t project k in
     let claims : sum_by (claim_part s project k) s.operations.live ≡ claim_part s project k o + sum_by (claim_part s project k) (dropped (has_number o.number) s.operations.live) =
@@ -259,17 +281,17 @@ used-done s o t h live done rest same project k =
     let others : sum_by (claim_part t project k) t.operations.live ≡ sum_by (claim_part s project k) (dropped (has_number o.number) s.operations.live) =
     ap (sum_by (claim_part t project k)) rest ∙ claims-same s t project k (dropped (has_number o.number) s.operations.live) same in
     let rows : sum_by (instance_part s project k) t.instances + sum_by (volume_part project k) t.volumes
-    ≤ sum_by (instance_part s project k) s.instances + sum_by (volume_part project k) s.volumes + claim_part s project k o = rows-less s o h live project k done in
+    ≤ sum_by (instance_part s project k) s.instances + sum_by (volume_part project k) s.volumes + claim_part s project k o = rows-less s o h live project k measure done in
     let tables_same = done-projects s done in
     let instances : sum_by (instance_part t project k) t.instances ≡ sum_by (instance_part s project k) t.instances =
     sum_by-same (instance_part t project k) (instance_part s project k) t.instances
-    (record { at = λ i m. ap (λ x. amount_for project k (record { project = i.project; amounts = x })) (amounts-tables s t i tables_same.0 tables_same.1) }) in
+    (record { at = λ i m. instance-same s t project k i (counts-tables s t i tables_same.0 tables_same.1) }) in
     omega (arith, before, after, claims, others, rows, instances)
 
 -- after a failure or a cancel: rows stay, and the claim goes
 pub used-returned : (s t : State) (n : ℕ) → tables t ≡ tables s → t.operations.live ≡ dropped (has_number n) s.operations.live
-    → ((task : Task) → share_of t task ≡ share_of s task)
-    → (project : List ℕ) (k : Part) → used t project k ≤ used s project k
+    → ((task : Task) → HoldsAlike s t task)
+    → (project : List ℕ) (k : Measure) → used_by t project k ≤ used_by s project k
 used-returned s t n rows rest same project k =
     let before = used-split s project k in
     let after = used-split t project k in
@@ -280,8 +302,7 @@ used-returned s t n rows rest same project k =
     let instances : sum_by (instance_part t project k) t.instances ≡ sum_by (instance_part s project k) s.instances =
     sum_by-same (instance_part t project k) (instance_part s project k) t.instances
     (record {
-      at = λ i m. ap (λ x. amount_for project k (record { project = i.project; amounts = x }))
-          (amounts-tables s t i (ap (λ (x : Tables). x.projects) rows) (ap (λ (x : Tables). x.profiles) rows));
+      at = λ i m. instance-same s t project k i (counts-tables s t i (ap (λ (x : Tables). x.projects) rows) (ap (λ (x : Tables). x.profiles) rows));
     })
     ∙ ap (λ (x : Tables). sum_by (instance_part s project k) x.instances) rows in
     omega (arith, before, after, less, others, volumes, instances)

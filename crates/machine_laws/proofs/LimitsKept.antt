@@ -17,8 +17,9 @@ use Rattle.row_machine.specs.declared.changes.RowChange.{RowChange}
 use Rattle.row_machine.specs.machine.Task.{Task}
 use Rattle.row_machine.specs.machine.State.{State}
 use Rattle.row_machine.specs.machine.Changes.{applied}
-use Rattle.row_machine.specs.machine.Claims.{share_of, amounts_of_instance, judged_instances, judged_volumes}
-use Rattle.row_machine.specs.machine.Usage.{loads, used}
+use Rattle.row_machine.specs.machine.Claims.{share_of, amounts_of_instance, part_of_share, part_of_instance, judged_instances, judged_volumes}
+use Rattle.row_machine.specs.machine.Usage.{loads}
+use Rattle.machine_laws.proofs.Measures.{used_by}
 use Rattle.row_machine.specs.machine.Plans.{changes, starts}
 use Rattle.row_machine.specs.shown.Notices.{telling}
 use Rattle.row_machine.specs.machine.Step.{first_pending}
@@ -35,14 +36,14 @@ use Rattle.machine_laws.proofs.SharesCores.{cores-work, cores-moved, cores-taken
 
 -- what is held is not judged
 less-entered : (s : State) (task : Task) (moment : ℕ) → IsLess (claiming s task moment) (entered s task moment)
-unfolding entered judged_instances judged_volumes loads share_of amounts_of_instance
+unfolding entered judged_instances judged_volumes loads share_of amounts_of_instance part_of_share part_of_instance
 less-entered s task moment = record {
   projects = refl;
   profiles = refl;
   networks = refl;
   instances = λ i m. m;
   volumes = λ v m. m;
-  usage = λ project part. let e : used (entered s task moment) project part ≡ used (claiming s task moment) project part = refl in omega (arith, e);
+  usage = λ project part measure. let e : used_by (entered s task moment) project part ≡ used_by (claiming s task moment) project part = refl in omega (arith, e);
 }
 
 module _ {s : State} {c : Command} {moment : ℕ} where
@@ -56,8 +57,8 @@ module _ {s : State} {c : Command} {moment : ℕ} where
 
 -- one ended, whose rows stay
 returned-within : (s : State) (n : ℕ) (now : Status) (why : OpFault) (moment : ℕ) → AreWithin s → AreWithin (returned n (ended n now why moment s))
-unfolding share_of amounts_of_instance
-returned-within s n now why moment h = within-returned s (returned n (ended n now why moment s)) n refl refl (λ task. refl) h
+unfolding share_of amounts_of_instance part_of_share part_of_instance
+returned-within s n now why moment h = within-returned s (returned n (ended n now why moment s)) n refl refl (λ task. record { share = refl; part = refl }) h
 
 module _ (s : State) (o : Operation Task) where
   pub limits-taken : (moment : ℕ) {call : HostCall} {rest : List HostCall} → IsWhole s → first_pending s ≡ Some o → o.work.calls ≡ call ∷ rest
@@ -103,14 +104,14 @@ module _ (s : State) (o : Operation Task) where
         power_operations = power-keeps (λ t. t.operations ≡ s.operations) (λ t powers e. e) o.work (power_after s o.work) s refl
 
 less-closed : (s : State) → IsLess s (record s { closed = true })
-unfolding judged_instances judged_volumes loads share_of amounts_of_instance
+unfolding judged_instances judged_volumes loads share_of amounts_of_instance part_of_share part_of_instance
 less-closed s = record {
   projects = refl;
   profiles = refl;
   networks = refl;
   instances = λ i m. m;
   volumes = λ v m. m;
-  usage = λ project part. let e : used (record s { closed = true }) project part ≡ used s project part = refl in omega (arith, e);
+  usage = λ project part measure. let e : used_by (record s { closed = true }) project part ≡ used_by s project part = refl in omega (arith, e);
 }
 
 pub limits-closed : (s : State) → IsWhole s → AreWithin (record s { closed = true })

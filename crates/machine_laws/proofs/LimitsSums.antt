@@ -9,14 +9,14 @@ use Rattle.plain_lists.proofs.PutsLemmas.{sum_by-Puts}
 use Rattle.plain_lists.proofs.EditLemmas.{changed-Puts, inserted-Puts, dropped-Puts, dropped-none}
 use Rattle.plain_lists.proofs.Readings.{sum_by-read}
 use Rattle.plain_lists.proofs.Searches.{none-any, find-none, find-any}
-use Rattle.size_values.specs.declared.amounts.Part.{Part}
 use Rattle.operations.specs.declared.operation.Operation.{Operation}
 use Rattle.records.specs.declared.rows.Volume.{Volume}
 use Rattle.records.specs.declared.rows.Instance.{Instance}
 use Rattle.row_machine.specs.machine.Task.{Task}
 use Rattle.row_machine.specs.machine.State.{State}
 use Rattle.row_machine.specs.machine.Claims.{of_live}
-use Rattle.row_machine.specs.machine.Usage.{loads, used, amount_for, instance_load, volume_load, claim_load}
+use Rattle.row_machine.specs.machine.Usage.{loads, instance_load, volume_load, claim_load}
+use Rattle.machine_laws.proofs.Measures.{Measure, measured, used_by}
 
 -- ---- lists
 
@@ -55,23 +55,23 @@ sum-dropped {X} f p xs = at (find p xs) refl where
 
 -- ---- usage
 
--- one part of what instances, volumes and an operation count for in a project
-abbrev pub instance_part : State → List ℕ → Part → Instance → ℕ
-instance_part s project k i = amount_for project k (instance_load s i)
+-- what instances, volumes and an operation count for in a project, by one measure
+abbrev pub instance_part : State → List ℕ → Measure → Instance → ℕ
+instance_part s project k i = measured project k (instance_load s i)
 
-abbrev pub volume_part : List ℕ → Part → Volume → ℕ
-volume_part project k v = amount_for project k (volume_load v)
+abbrev pub volume_part : List ℕ → Measure → Volume → ℕ
+volume_part project k v = measured project k (volume_load v)
 
-abbrev pub claim_part : State → List ℕ → Part → Operation Task → ℕ
-claim_part s project k o = option_map_or (amount_for project k) (claim_load s o.work) 0
+abbrev pub claim_part : State → List ℕ → Measure → Operation Task → ℕ
+claim_part s project k o = option_map_or (measured project k) (claim_load s o.work) 0
 
-pub used-split : (s : State) (project : List ℕ) (k : Part)
-    → used s project k ≡ sum_by (instance_part s project k) s.instances + sum_by (volume_part project k) s.volumes + sum_by (claim_part s project k) s.operations.live
+pub used-split : (s : State) (project : List ℕ) (k : Measure)
+    → used_by s project k ≡ sum_by (instance_part s project k) s.instances + sum_by (volume_part project k) s.volumes + sum_by (claim_part s project k) s.operations.live
 unfolding loads
 used-split s project k =
-    sum_by-append (amount_for project k) (map (instance_load s) s.instances ++ map volume_load s.volumes) (of_live (claim_load s) s)
-    ∙ ap (λ n. n + sum_by (amount_for project k) (of_live (claim_load s) s)) (sum_by-append (amount_for project k) (map (instance_load s) s.instances) (map volume_load s.volumes))
-    ∙ ap (λ n. n + sum_by (amount_for project k) (map volume_load s.volumes) + sum_by (amount_for project k) (of_live (claim_load s) s)) (sum_by-map (instance_load s) (amount_for project k) s.instances)
-    ∙ ap (λ n. sum_by (instance_part s project k) s.instances + n + sum_by (amount_for project k) (of_live (claim_load s) s)) (sum_by-map volume_load (amount_for project k) s.volumes)
+    sum_by-append (measured project k) (map (instance_load s) s.instances ++ map volume_load s.volumes) (of_live (claim_load s) s)
+    ∙ ap (λ n. n + sum_by (measured project k) (of_live (claim_load s) s)) (sum_by-append (measured project k) (map (instance_load s) s.instances) (map volume_load s.volumes))
+    ∙ ap (λ n. n + sum_by (measured project k) (map volume_load s.volumes) + sum_by (measured project k) (of_live (claim_load s) s)) (sum_by-map (instance_load s) (measured project k) s.instances)
+    ∙ ap (λ n. sum_by (instance_part s project k) s.instances + n + sum_by (measured project k) (of_live (claim_load s) s)) (sum_by-map volume_load (measured project k) s.volumes)
     ∙ ap (λ n. sum_by (instance_part s project k) s.instances + sum_by (volume_part project k) s.volumes + n)
-    (sum_by-read (λ (o : Operation Task). claim_load s o.work) (amount_for project k) s.operations.live)
+    (sum_by-read (λ (o : Operation Task). claim_load s o.work) (measured project k) s.operations.live)

@@ -14,7 +14,8 @@ use Rattle.config_lists.proofs.Keys.{same, bytes_eq-itself}
 use Rattle.size_values.specs.Amounts.{part, minus_of, excess_of}
 use Rattle.size_values.specs.declared.amounts.Part.{Part}
 use Rattle.size_values.specs.declared.amounts.Part.TheVariants.{Instances, Containers, Machines, Cpu, Memory, Processes, Disk}
-use Rattle.size_values.proofs.AmountParts.{part-excess, part-minus}
+use Rattle.size_values.specs.PoolParts.{on_pool, part_above}
+use Rattle.size_values.proofs.AmountParts.{part-minus}
 use Rattle.size_values.specs.declared.kinds.Deed.{Deed}
 use Rattle.size_values.specs.declared.kinds.Deed.TheVariants as deed
 use Rattle.size_values.specs.declared.kinds.ObjectKind.TheVariants as kind
@@ -34,25 +35,27 @@ use Rattle.row_machine.specs.machine.Task.{Task}
 use Rattle.row_machine.specs.machine.State.{State}
 use Rattle.row_machine.specs.machine.Rows.{is_instance, instance_named, instance_names, with_instance, texts_before}
 use Rattle.row_machine.specs.machine.Changes.{applied}
-use Rattle.row_machine.specs.machine.Claims.{claimed_instance, replaced_instance, amounts_of_instance, share_of}
+use Rattle.row_machine.specs.machine.Claims.{claimed_instance, replaced_instance, amounts_of_instance, part_of_instance, share_of, part_of_share}
 use Rattle.row_machine.specs.shown.Urls.{target_of}
-use Rattle.row_machine.specs.machine.Usage.{loads, used, usage_of, amount_for}
+use Rattle.row_machine.specs.machine.Usage.{loads, used, used_on, usage_of}
 use Rattle.row_machine.specs.shown.Notices.{telling, success_notices, operation_notice}
 use Rattle.row_machine.specs.machine.Accept.{After}
 use Rattle.row_machine.specs.machine.Step.{well, step, success, committed, done, reported, call_done}
 use Rattle.row_machine.specs.machine.Operations.{converted, ended, succeeded, success_changes, with_power_after, power_after}
 use Rattle.row_machine.specs.facts.Whole.{IsByDeed, IsPlaced}
 use Rattle.row_machine.specs.machine.Deeds.{keeps_name, replaces_target, claim_kind}
-use Rattle.machine_laws.specs.Lowered.{IsLastDone, LowersUsage, UpdatesLower, SuccessesRaiseNothing}
+use Rattle.machine_laws.specs.Lowered.{IsLastDone, LowersUsage, RaisesNothing, UpdatesLower, SuccessesRaiseNothing}
+use Rattle.machine_laws.proofs.Measures.{Measure, IsMeasure, used_by, by_part, by_pool, part-measure, pool-measure}
+use Rattle.machine_laws.proofs.SharesAlike.{HoldsAlike}
 use Rattle.machine_laws.proofs.ExpansionsApart.{fails-by}
 use Rattle.machine_laws.proofs.BooksSteps.{applied-same, power-keeps, telling-keeps}
 use Rattle.machine_laws.proofs.Found.{there-is, instance-found, some-is}
-use Rattle.machine_laws.proofs.LimitsEnds.{share_part, excess-part, claims-same, used-done}
+use Rattle.machine_laws.proofs.LimitsEnds.{share_part, excess-part, claims-same, instance-same, used-done}
 use Rattle.machine_laws.proofs.LimitsRows.{Tables, tables, IsDone, with-instance}
 use Rattle.machine_laws.proofs.LimitsSuccess.{success-rows, power-tables, ClaimsInstance, none, some, claims-instance}
 use Rattle.machine_laws.proofs.LimitsSums.{instance_part, volume_part, claim_part, used-split, sum-instead}
 use Rattle.machine_laws.proofs.SharesApart.{Replaces, replaces-or_not}
-use Rattle.machine_laws.proofs.SharesSuccess.{share-done, amounts-tables}
+use Rattle.machine_laws.proofs.SharesSuccess.{share-done, counts-tables}
 
 -- ---- usage, part by part
 
@@ -68,8 +71,12 @@ part-used s project Disk = refl
 
 -- a fact on usage alone that notices leave
 usage-notices : (s : State) (notices : List Notice) (next : ℕ) (project : List ℕ) → usage_of (record s { notices = notices; next_notice = next }) project ≡ usage_of s project
-unfolding usage_of loads share_of amounts_of_instance
+unfolding usage_of loads share_of amounts_of_instance part_of_share part_of_instance
 usage-notices s notices next project = refl
+
+pools-notices : (s : State) (notices : List Notice) (next : ℕ) (project pool : List ℕ) → used_on (record s { notices = notices; next_notice = next }) project pool ≡ used_on s project pool
+unfolding loads share_of amounts_of_instance part_of_share part_of_instance
+pools-notices s notices next project pool = refl
 
 -- ---- the last call is done
 
@@ -109,16 +116,19 @@ module _ (s : State) (o : Operation Task) (moment : ℕ) (h : IsLastDone s o) wh
   rest = ap (λ k. dropped (has_number o.number) k.live) ((applied-same (success_changes s o.work) powered).operations
       ∙ power-keeps (λ t. t.operations ≡ s.operations) (λ t powers e. e) o.work (power_after s o.work) s refl)
 
-  shares : Each (λ (x : Operation Task). share_of next x.work ≡ share_of s x.work) (dropped (has_number o.number) s.operations.live)
+  shares : Each (λ (x : Operation Task). HoldsAlike s next x.work) (dropped (has_number o.number) s.operations.live)
   shares = record { at = λ x m. share-done s o x next h.whole h.live m done-rows }
 
-  pub raises-nothing : (project : List ℕ) (k : Part) → part k (usage_of (succeeded s o moment) project) ≤ part k (usage_of s project)
+  pub raises-nothing : RaisesNothing s (succeeded s o moment)
   unfolding succeeded
-  raises-nothing project k =
-      let less = used-done s o next h.whole h.live done-rows rest shares project k in
-      let before = part-used s project k in
-      let after = part-used next project k in
-      omega (arith, less, before, after)
+  raises-nothing = record {
+    parts = λ project k.
+        let less : used next project k ≤ used s project k = used-done s o next h.whole h.live done-rows rest shares project (by_part k) (part-measure k) in
+        let before = part-used s project k in
+        let after = part-used next project k in
+        omega (arith, less, before, after);
+    pools = λ project pool. used-done s o next h.whole h.live done-rows rest shares project (by_pool pool) (pool-measure pool);
+  }
 
 -- ---- an update or a restore
 
@@ -189,8 +199,8 @@ module _ (s : State) (o : Operation Task) (moment : ℕ) (h : IsLastDone s o) (k
     }
 
   -- all that counts, before and after
-  module _ (r : IsReplacement s o) (project : List ℕ) (k : Part) where
-    after-split : used (next s o moment h) project k + instance_part s project k r.old + claim_part s project k o ≡ used s project k + instance_part s project k r.new
+  module _ (r : IsReplacement s o) (project : List ℕ) (k : Measure) where
+    after-split : used_by (next s o moment h) project k + instance_part s project k r.old + claim_part s project k o ≡ used_by s project k + instance_part s project k r.new
     after-split =
         let before = used-split s project k in
         let after = used-split (next s o moment h) project k in
@@ -205,8 +215,8 @@ module _ (s : State) (o : Operation Task) (moment : ℕ) (h : IsLastDone s o) (k
         let same_parts : sum_by (instance_part (next s o moment h) project k) (next s o moment h).instances ≡ sum_by (instance_part s project k) (next s o moment h).instances =
         sum_by-same (instance_part (next s o moment h) project k) (instance_part s project k) (next s o moment h).instances
         (record {
-          at = λ i m. ap (λ x. amount_for project k (record { project = i.project; amounts = x }))
-              (amounts-tables s (next s o moment h) i (ap (λ (t : Tables). t.projects) rows) (ap (λ (t : Tables). t.profiles) rows));
+          at = λ i m. instance-same s (next s o moment h) project k i
+              (counts-tables s (next s o moment h) i (ap (λ (t : Tables). t.projects) rows) (ap (λ (t : Tables). t.profiles) rows));
         }) in
         let instances : sum_by (instance_part s project k) (next s o moment h).instances ≡ sum_by (instance_part s project k) (with_instance r.new s.instances) =
         ap (λ (t : Tables). sum_by (instance_part s project k) t.instances) rows in
@@ -214,7 +224,8 @@ module _ (s : State) (o : Operation Task) (moment : ℕ) (h : IsLastDone s o) (k
         (ap (λ p. instance_named s.instances p r.new.name) r.project ∙ ap (λ n. instance_named s.instances o.work.project n) r.name ∙ r.stands) in
         omega (arith, before, after, claims, others, volumes, same_parts, instances, instead)
 
-    held : claim_part s project k o ≡ share_part project k (row.Instance r.new) (excess_of (amounts_of_instance s r.new) (amounts_of_instance s r.old))
+    held : claim_part s project k o
+        ≡ share_part project k (row.Instance r.new) (excess_of (amounts_of_instance s r.new) (amounts_of_instance s r.old)) (part_above (part_of_instance s r.new) (part_of_instance s r.old))
     held = excess-part s project k o r.new r.old r.claim r.replaced
         ((instance-found s.instances o.work.project o.work.target.name r.old r.stands).0 ∙ sym r.project)
 
@@ -225,8 +236,16 @@ module _ (s : State) (o : Operation Task) (moment : ℕ) (h : IsLastDone s o) (k
     new = r.new;
     stands = r.stands;
     claimed = r.claimed;
-    own = own;
-    others = others;
+    own = λ k.
+        let by = own (by_part k) (part-measure k) in
+        let below = part-minus k (amounts_of_instance s r.old) (amounts_of_instance s r.new) in
+        let before = part-used s o.work.project k in
+        let after = part-used (next s o moment h) o.work.project k in
+        let all : used s o.work.project k ≡ used (next s o moment h) o.work.project k + (part k (amounts_of_instance s r.old) - part k (amounts_of_instance s r.new)) = by in
+        omega (arith, all, below, before, after);
+    others = λ project other k. part-used (next s o moment h) project k ∙ others project other (by_part k) ∙ sym (part-used s project k);
+    own_pools = λ pool. own (by_pool pool) (pool-measure pool);
+    other_pools = λ project other pool. others project other (by_pool pool);
   } where
     r : IsReplacement s o
     r = replacement
@@ -234,36 +253,41 @@ module _ (s : State) (o : Operation Task) (moment : ℕ) (h : IsLastDone s o) (k
     old_project : r.old.project ≡ o.work.project
     old_project = (instance-found s.instances o.work.project o.work.target.name r.old r.stands).0
 
-    own : (k : Part) → part k (usage_of s o.work.project) ≡ part k (usage_of (next s o moment h) o.work.project) + part k (minus_of (amounts_of_instance s r.old) (amounts_of_instance s r.new))
-    own k =
-        let new_is : instance_part s o.work.project k r.new ≡ part k (amounts_of_instance s r.new) =
-        ap (λ b. cond b (part k (amounts_of_instance s r.new)) 0) (ap (λ p. bytes_eq p o.work.project) r.project ∙ bytes_eq-itself o.work.project) in
-        let old_is : instance_part s o.work.project k r.old ≡ part k (amounts_of_instance s r.old) =
-        ap (λ b. cond b (part k (amounts_of_instance s r.old)) 0) (ap (λ p. bytes_eq p o.work.project) old_project ∙ bytes_eq-itself o.work.project) in
-        let held_is : claim_part s o.work.project k o ≡ part k (amounts_of_instance s r.new) - part k (amounts_of_instance s r.old) =
-        held r o.work.project k
-        ∙ ap (λ b. cond b (part k (excess_of (amounts_of_instance s r.new) (amounts_of_instance s r.old))) 0) (ap (λ p. bytes_eq p o.work.project) r.project ∙ bytes_eq-itself o.work.project)
-        ∙ part-excess k (amounts_of_instance s r.new) (amounts_of_instance s r.old) in
-        let split = after-split r o.work.project k in
-        let below = part-minus k (amounts_of_instance s r.old) (amounts_of_instance s r.new) in
-        let before = part-used s o.work.project k in
-        let after = part-used (next s o moment h) o.work.project k in
-        omega (arith, new_is, old_is, held_is, split, below, before, after)
+    new_counts : Measure → ℕ
+    new_counts k = k (amounts_of_instance s r.new) (part_of_instance s r.new)
 
-    others : (project : List ℕ) → project ≢ o.work.project → (k : Part) → part k (usage_of (next s o moment h) project) ≡ part k (usage_of s project)
+    old_counts : Measure → ℕ
+    old_counts k = k (amounts_of_instance s r.old) (part_of_instance s r.old)
+
+    above : Measure → ℕ
+    above k = k (excess_of (amounts_of_instance s r.new) (amounts_of_instance s r.old)) (part_above (part_of_instance s r.new) (part_of_instance s r.old))
+
+    own : (k : Measure) → IsMeasure k → used_by s o.work.project k ≡ used_by (next s o moment h) o.work.project k
+        + (k (amounts_of_instance s r.old) (part_of_instance s r.old) - k (amounts_of_instance s r.new) (part_of_instance s r.new))
+    own k measure =
+        let new_is : instance_part s o.work.project k r.new ≡ new_counts k =
+        ap (λ b. cond b (new_counts k) 0) (ap (λ p. bytes_eq p o.work.project) r.project ∙ bytes_eq-itself o.work.project) in
+        let old_is : instance_part s o.work.project k r.old ≡ old_counts k =
+        ap (λ b. cond b (old_counts k) 0) (ap (λ p. bytes_eq p o.work.project) old_project ∙ bytes_eq-itself o.work.project) in
+        let held_is : claim_part s o.work.project k o ≡ new_counts k - old_counts k =
+        held r o.work.project k
+        ∙ ap (λ b. cond b (above k) 0) (ap (λ p. bytes_eq p o.work.project) r.project ∙ bytes_eq-itself o.work.project)
+        ∙ measure.excess (amounts_of_instance s r.new) (amounts_of_instance s r.old) (part_of_instance s r.new) (part_of_instance s r.old) in
+        let split = after-split r o.work.project k in
+        omega (arith, new_is, old_is, held_is, split)
+
+    others : (project : List ℕ) → project ≢ o.work.project → (k : Measure) → used_by (next s o moment h) project k ≡ used_by s project k
     others project other k =
         let fails : bytes_eq o.work.project project ≡ false = fails-by (bytes_eq o.work.project project) (λ is. other (sym (same o.work.project project is))) in
         let new_is : instance_part s project k r.new ≡ 0 =
-        ap (λ b. cond b (part k (amounts_of_instance s r.new)) 0) (ap (λ p. bytes_eq p project) r.project ∙ fails) in
+        ap (λ b. cond b (new_counts k) 0) (ap (λ p. bytes_eq p project) r.project ∙ fails) in
         let old_is : instance_part s project k r.old ≡ 0 =
-        ap (λ b. cond b (part k (amounts_of_instance s r.old)) 0) (ap (λ p. bytes_eq p project) old_project ∙ fails) in
+        ap (λ b. cond b (old_counts k) 0) (ap (λ p. bytes_eq p project) old_project ∙ fails) in
         let held_is : claim_part s project k o ≡ 0 =
         held r project k
-        ∙ ap (λ b. cond b (part k (excess_of (amounts_of_instance s r.new) (amounts_of_instance s r.old))) 0) (ap (λ p. bytes_eq p project) r.project ∙ fails) in
+        ∙ ap (λ b. cond b (above k) 0) (ap (λ p. bytes_eq p project) r.project ∙ fails) in
         let split = after-split r project k in
-        let before = part-used s project k in
-        let after = part-used (next s o moment h) project k in
-        omega (arith, new_is, old_is, held_is, split, before, after)
+        omega (arith, new_is, old_is, held_is, split)
 
   pub lowers : LowersUsage s (succeeded s o moment) o
   unfolding succeeded
@@ -280,6 +304,9 @@ lowers-notices s o t notices n l = record {
   claimed = l.claimed;
   own = λ k. l.own k ∙ ap (λ u. part k u + part k (minus_of (amounts_of_instance s l.old) (amounts_of_instance s l.new))) (sym (usage-notices t notices n o.work.project));
   others = λ project other k. ap (part k) (usage-notices t notices n project) ∙ l.others project other k;
+  own_pools = λ pool. l.own_pools pool
+      ∙ ap (λ u. u + (on_pool pool (part_of_instance s l.old) - on_pool pool (part_of_instance s l.new))) (sym (pools-notices t notices n o.work.project pool));
+  other_pools = λ project other pool. pools-notices t notices n project pool ∙ l.other_pools project other pool;
 }
 
 -- a fact that notices leave, of the state after the step
@@ -294,7 +321,12 @@ after-step F keeps s o moment after h is holds =
 pub updates-lower : UpdatesLower
 updates-lower s o moment after h keeps is = after-step (λ t. LowersUsage s t o) (lowers-notices s o) s o moment after h is (lowers s o moment h keeps)
 
+-- and so is that nothing was raised
+raises-notices : (s t : State) (notices : List Notice) (n : ℕ) → RaisesNothing s t → RaisesNothing s (record t { notices = notices; next_notice = n })
+raises-notices s t notices n less = record {
+  parts = λ project k. subst (λ u. part k u ≤ part k (usage_of s project)) (sym (usage-notices t notices n project)) (less.parts project k);
+  pools = λ project pool. subst (λ u. u ≤ used_on s project pool) (sym (pools-notices t notices n project pool)) (less.pools project pool);
+}
+
 pub successes-raise_nothing : SuccessesRaiseNothing
-successes-raise_nothing s o moment after h is = after-step (λ t. (project : List ℕ) (k : Part) → part k (usage_of t project) ≤ part k (usage_of s project))
-    (λ t notices n less project k. subst (λ u. part k u ≤ part k (usage_of s project)) (sym (usage-notices t notices n project)) (less project k))
-    s o moment after h is (raises-nothing s o moment h)
+successes-raise_nothing s o moment after h is = after-step (RaisesNothing s) (raises-notices s) s o moment after h is (raises-nothing s o moment h)

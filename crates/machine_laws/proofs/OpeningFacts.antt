@@ -1,5 +1,5 @@
 -- Where rows break no rule at opening, all ten facts hold of the state that they open to.
-use Rattle.std.proofs.Common.{◌≡◌, ℕ, ◌≤◌, Bool, true, false, cond, not, ◌&&◌, ◌||◌, Option, Some, None, List, [], ◌∷◌, ◌++◌, length, filter, codes, refl, sym, ap, ◌∙◌, inl, inr, arith}
+use Rattle.std.proofs.Common.{◌≡◌, ℕ, ◌+◌, ◌≤◌, Bool, true, false, cond, not, ◌&&◌, ◌||◌, Option, Some, None, List, [], ◌∷◌, ◌++◌, length, filter, codes, refl, sym, ap, ◌∙◌, inl, inr, arith}
 use Rattle.std.specs.Str.{bytes_eq}
 use Rattle.std.specs.Option.{option_map, option_and_then, is_some, is_none}
 use Rattle.plain_lists.specs.Firsts.{first_of}
@@ -8,6 +8,10 @@ use Rattle.plain_lists.proofs.Elements.{Mem-append, Each-none, Each-cons, Each-a
 use Rattle.plain_lists.proofs.FirstLemmas.{none_both, told_if, not_mapped, none-first_of}
 use Rattle.plain_lists.proofs.Searches.{find-some, find-mem}
 use Rattle.config_lists.proofs.Keys.{same, bytes_eq-itself}
+use Rattle.std.specs.List.{sum_by}
+use Rattle.reservations.specs.declared.books.Hold.{Hold}
+use Rattle.size_values.specs.Amounts.{part}
+use Rattle.size_values.specs.declared.amounts.Part.{Part}
 use Rattle.size_values.specs.declared.amounts.Part.TheVariants.{Instances, Containers, Machines, Cpu, Memory, Processes, Disk}
 use Rattle.size_values.specs.declared.kinds.ObjectKind.{ObjectKind}
 use Rattle.operations.proofs.KeptLemmas.{AreKept-none}
@@ -187,13 +191,15 @@ module _ (a : State) (rows : List Row) (h : IsOpened (rows_alone a) rows) where
     all p m = none-first_of (λ (o : Option Refusal). o) _ (Each-cons _ (instances p m) (Each-cons _ (volumes p m) (Each-cons _ refl Each-none)))
 
   balanced : AreBalanced s
-  balanced Instances = refl
-  balanced Containers = refl
-  balanced Machines = refl
-  balanced Cpu = refl
-  balanced Memory = refl
-  balanced Processes = refl
-  balanced Disk = refl
+  balanced = record { parts = by_part; pools = refl } where
+    by_part : (k : Part) → part k s.books.granted ≡ part k s.books.converted + part k s.books.returned + sum_by (λ (h : Hold). part k h.share) s.held
+    by_part Instances = refl
+    by_part Containers = refl
+    by_part Machines = refl
+    by_part Cpu = refl
+    by_part Memory = refl
+    by_part Processes = refl
+    by_part Disk = refl
 
   sizes : AreFew s
   sizes = record {

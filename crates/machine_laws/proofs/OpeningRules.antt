@@ -18,7 +18,7 @@ use Rattle.records.specs.declared.rows.Project.{Project}
 use Rattle.records.specs.declared.rows.Row.{Row}
 use Rattle.row_machine.specs.machine.State.{State}
 use Rattle.row_machine.specs.machine.Rows.{default_name, project_named}
-use Rattle.row_machine.specs.machine.LimitRules.{part_exceeds, networks_exceed, limits_broken}
+use Rattle.row_machine.specs.machine.LimitRules.{part_exceeds, networks_exceed, pools_exceed, limits_broken}
 use Rattle.row_machine.specs.machine.TableRules.{row_kinds, too_large, size_of, largest_row}
 use Rattle.row_machine.specs.machine.Kinds.{cap_of}
 use Rattle.row_machine.specs.opening.Opening.{Opening, opened, broken, broken_at, home_missing, parent_row_missing, profiles_malformed, defaults_missing, settings_invalid, devices_invalid, root_disk_missing, named_row_missing, forbidden, row_lacks_amount, row_rules, row_breaks, default_missing, limit_breaks, past_cap, size_breaks, rows_break}
@@ -56,13 +56,15 @@ limits-none : (s : State) (rows : List Row) → limit_breaks s rows ≡ None →
 unfolding limits_broken
 limits-none s rows h =
     let both = none_both (first_of (λ k. first_of (λ p. option_map (at_project p) (part_exceeds s s k p)) s.projects) parts) _ h in
-    let more = none_both (first_of (λ p. option_map (at_project p) (networks_exceed s s p)) s.projects) None both.1 in
+    let more = none_both (first_of (λ p. option_map (at_project p) (networks_exceed s s p)) s.projects) _ both.1 in
+    let last = none_both (first_of (λ p. option_map (at_project p) (pools_exceed s s p)) s.projects) None more.1 in
     let of_parts : first_of (λ k. first_of (part_exceeds s s k) s.projects) parts ≡ None =
     none-first_of (λ k. first_of (part_exceeds s s k) s.projects) parts
     (Each-map (λ k none. mapped-none at_project (part_exceeds s s k) s.projects none)
     (first_of-none (λ k. first_of (λ p. option_map (at_project p) (part_exceeds s s k p)) s.projects) parts both.0)) in
     let of_networks : first_of (networks_exceed s s) s.projects ≡ None = mapped-none at_project (networks_exceed s s) s.projects more.0 in
-    none-first_of (λ (o : Option Refusal). o) _ (Each-cons _ of_parts (Each-cons _ of_networks Each-none))
+    let of_pools : first_of (pools_exceed s s) s.projects ≡ None = mapped-none at_project (pools_exceed s s) s.projects last.0 in
+    none-first_of (λ (o : Option Refusal). o) _ (Each-cons _ of_parts (Each-cons _ of_networks (Each-cons _ of_pools Each-none)))
   where
     at_project : Project → Refusal → Opening
     at_project p r = broken r.rule 1 p.name
@@ -158,8 +160,10 @@ rows-open_none s rows =
     (or-opens (first_of (λ k. first_of (λ p. option_map (at_project p) (part_exceeds s s k p)) s.projects) parts) _
     (first-opens (λ k. first_of (λ p. option_map (at_project p) (part_exceeds s s k p)) s.projects) parts
     (λ k. first-opens (λ p. option_map (at_project p) (part_exceeds s s k p)) s.projects (λ p. mapped-opens (at_project p) (part_exceeds s s k p) (λ r. tt))))
-    (or-opens (first_of (λ p. option_map (at_project p) (networks_exceed s s p)) s.projects) None
-    (first-opens (λ p. option_map (at_project p) (networks_exceed s s p)) s.projects (λ p. mapped-opens (at_project p) (networks_exceed s s p) (λ r. tt))) tt))
+    (or-opens (first_of (λ p. option_map (at_project p) (networks_exceed s s p)) s.projects) _
+    (first-opens (λ p. option_map (at_project p) (networks_exceed s s p)) s.projects (λ p. mapped-opens (at_project p) (networks_exceed s s p) (λ r. tt)))
+    (or-opens (first_of (λ p. option_map (at_project p) (pools_exceed s s p)) s.projects) None
+    (first-opens (λ p. option_map (at_project p) (pools_exceed s s p)) s.projects (λ p. mapped-opens (at_project p) (pools_exceed s s p) (λ r. tt))) tt)))
     (or-opens (first_of (past_cap rows) row_kinds) _
     (first-opens (past_cap rows) row_kinds (λ k. mapped-opens (λ r. broken_at r rule.C1) _ (λ r. tt)))
     (or-opens (size_breaks rows) None

@@ -17,23 +17,23 @@ use Rattle.row_machine.specs.declared.changes.RowChange.{RowChange}
 use Rattle.row_machine.specs.machine.Task.{Task}
 use Rattle.row_machine.specs.machine.State.{State}
 use Rattle.row_machine.specs.machine.Changes.{applied, rows_put}
-use Rattle.row_machine.specs.machine.Claims.{share_of, amounts_of_instance, claimed_instance, replaced_instance}
+use Rattle.row_machine.specs.machine.Claims.{share_of, amounts_of_instance, part_of_share, part_of_instance, claimed_instance, replaced_instance}
 use Rattle.row_machine.specs.machine.Plans.{changes, starts}
 use Rattle.row_machine.specs.shown.Notices.{telling}
 use Rattle.row_machine.specs.machine.Step.{first_pending}
-use Rattle.row_machine.specs.machine.Operations.{project_of_task, is_held_by, converted, returned, entered, with_task, moved, handing_out, one_more_done, undone, cancelled, failed, succeeded, ended, success_changes, with_power_after, power_after, after_failure}
+use Rattle.row_machine.specs.machine.Operations.{is_held_by, converted, returned, entered, with_task, moved, handing_out, one_more_done, undone, cancelled, failed, succeeded, ended, success_changes, with_power_after, power_after, after_failure}
 use Rattle.row_machine.specs.facts.Whole.{IsWhole, held_by}
 use Rattle.machine_laws.proofs.Cases.{IsAccepted, IsLiveAs, AtOnce}
 use Rattle.machine_laws.proofs.BooksSteps.{HasSameBooking, applied-same, power-keeps, failure-keeps, telling-keeps}
 use Rattle.machine_laws.proofs.LimitsRows.{tables, IsDone}
 use Rattle.machine_laws.proofs.LimitsSuccess.{success-rows}
 use Rattle.machine_laws.proofs.SharesCores.{map-each, cores-work, cores-moved, cores-taken, live-pending}
-use Rattle.machine_laws.proofs.SharesSteps.{AreHeld, held-still, held-ended, held-entered, held-powers, held-notices}
+use Rattle.machine_laws.proofs.SharesSteps.{AreHeld, alike-held, held-still, held-ended, held-entered, held-powers, held-notices}
 use Rattle.machine_laws.proofs.SharesSuccess.{share-done}
-use Rattle.machine_laws.proofs.SharesAlike.{share-alike}
+use Rattle.machine_laws.proofs.SharesAlike.{HoldsAlike, share-alike}
 use Rattle.machine_laws.proofs.SharesApart.{Replaces, replaces-or_not}
 use Rattle.machine_laws.proofs.SharesAtOnce.{lookup-at_once, claim-judged, replaced-row}
-use Rattle.machine_laws.proofs.Expansions.{amounts-alike}
+use Rattle.machine_laws.proofs.Expansions.{counts-alike}
 use Rattle.machine_laws.proofs.ExpansionsNamed.{row-judged}
 use Rattle.machine_laws.proofs.ExpansionsSeen.{claims-alike}
 use Rattle.machine_laws.proofs.Judged.{judged}
@@ -47,9 +47,9 @@ use Rattle.plain_lists.proofs.Searches.{find-some}
 
 -- a share is given back where one ended
 returned-held : (s : State) (n : ℕ) (now : Status) (why : OpFault) (moment : ℕ) → AreHeld s → AreHeld (returned n (ended n now why moment s))
-unfolding share_of amounts_of_instance
+unfolding share_of amounts_of_instance part_of_share part_of_instance
 returned-held s n now why moment h =
-    held-ended s (returned n (ended n now why moment s)) n refl refl (record { at = λ x m. refl }) h
+    held-ended s (returned n (ended n now why moment s)) n refl refl (record { at = λ x m. record { share = refl; part = refl } }) h
 
 -- what a live operation replaces is there as it was after changes at once
 replaced-at_once : (s : State) (cs : List RowChange) (o : Operation Task) → IsWhole s → AtOnce s cs → Mem o s.operations.live
@@ -67,18 +67,18 @@ shares-at_once : (s : State) (cs : List RowChange) → IsWhole s → AtOnce s cs
 shares-at_once s cs h form settings =
     same.held ∙ h.shares
     ∙ sym (map-each (held_by (applied s cs)) (held_by s) s.operations.live
-    (record { at = λ o m. ap (λ share. record { op = o.number; project = project_of_task o.work; share = share }) (share o m) }))
+    (record { at = λ o m. alike-held s (applied s cs) o.number o.work (share o m) }))
     ∙ sym (ap (λ k. map (held_by (applied s cs)) k.live) same.operations) where
       same : HasSameBooking s (applied s cs)
       same = applied-same cs s
 
-      share : (o : Operation Task) → Mem o s.operations.live → share_of (applied s cs) o.work ≡ share_of s o.work
+      share : (o : Operation Task) → Mem o s.operations.live → HoldsAlike s (applied s cs) o.work
       share o live = share-alike o.work (record {
-        claimed = λ i is. amounts-alike (claims-alike s cs o i h form settings live
+        claimed = λ i is. counts-alike (claims-alike s cs o i h form settings live
             (subst (λ c. Mem i (option_to_list c ++ option_to_list (replaced_instance s o.work))) (sym is) (inl refl))
             (claim-judged s o i live is));
         replaced = replaced-at_once s cs o h form live;
-        old = λ i is. amounts-alike (claims-alike s cs o i h form settings live
+        old = λ i is. counts-alike (claims-alike s cs o i h form settings live
             (Mem-right i (option_to_list (claimed_instance o.work)) (option_to_list (replaced_instance s o.work))
             (subst (λ c. Mem i (option_to_list c)) (sym is) (inl refl)))
             (row-judged s i (replaced-row s o.work i is)));
@@ -94,26 +94,26 @@ module _ {s : State} {c : Command} {moment : ℕ} where
 module _ (s : State) (o : Operation Task) where
   pub shares-taken : (moment : ℕ) {call : HostCall} {rest : List HostCall} → IsWhole s → first_pending s ≡ Some o → o.work.calls ≡ call ∷ rest
       → AreHeld (with_task o.number (handing_out o.work rest) (moved o.number Running moment s))
-  unfolding share_of amounts_of_instance
+  unfolding share_of amounts_of_instance part_of_share part_of_instance
   shares-taken moment {rest} h first calls =
       held-still s (with_task o.number (handing_out o.work rest) (moved o.number Running moment s)) refl
-      (cores-taken o Running moment (handing_out o.work rest) s.operations (live-pending o h first) refl) (λ task. refl) h.shares
+      (cores-taken o Running moment (handing_out o.work rest) s.operations (live-pending o h first) refl) (λ task. record { share = refl; part = refl }) h.shares
 
   pub shares-next : {call : HostCall} {rest : List HostCall} → IsLiveAs s o Running → o.work.calls ≡ call ∷ rest
       → AreHeld (with_task o.number (one_more_done o.work rest) s)
-  unfolding share_of amounts_of_instance
+  unfolding share_of amounts_of_instance part_of_share part_of_instance
   shares-next {rest} h calls = held-still s (with_task o.number (one_more_done o.work rest) s) refl
-      (cores-work o (one_more_done o.work rest) s.operations h.live refl) (λ task. refl) h.whole.shares
+      (cores-work o (one_more_done o.work rest) s.operations h.live refl) (λ task. record { share = refl; part = refl }) h.whole.shares
 
   pub shares-undone : {call : HostCall} → IsLiveAs s o Cancelling → o.work.undo ≡ Some call → AreHeld (with_task o.number (undone o.work) s)
-  unfolding share_of amounts_of_instance
+  unfolding share_of amounts_of_instance part_of_share part_of_instance
   shares-undone h undo = held-still s (with_task o.number (undone o.work) s) refl
-      (cores-work o (undone o.work) s.operations h.live refl) (λ task. refl) h.whole.shares
+      (cores-work o (undone o.work) s.operations h.live refl) (λ task. record { share = refl; part = refl }) h.whole.shares
 
   pub shares-cancelling : (moment : ℕ) → IsLiveAs s o Running → o.may_cancel ≡ true → AreHeld (moved o.number Cancelling moment s)
-  unfolding share_of amounts_of_instance
+  unfolding share_of amounts_of_instance part_of_share part_of_instance
   shares-cancelling moment h may = held-still s (moved o.number Cancelling moment s) refl
-      (cores-moved o.number Cancelling moment s.operations) (λ task. refl) h.whole.shares
+      (cores-moved o.number Cancelling moment s.operations) (λ task. record { share = refl; part = refl }) h.whole.shares
 
   pub shares-cancelled : (moment : ℕ) → IsWhole s → live_at s.operations o.number ≡ Some o → AreHeld (cancelled s o.number moment)
   unfolding cancelled
@@ -125,7 +125,7 @@ module _ (s : State) (o : Operation Task) where
       (failure-keeps AreHeld held-powers o.work done s h.whole.shares)
 
   pub shares-succeeded : (moment : ℕ) → IsLiveAs s o Running → o.work.calls ≡ [] → AreHeld (succeeded s o moment)
-  unfolding succeeded share_of amounts_of_instance
+  unfolding succeeded share_of amounts_of_instance part_of_share part_of_instance
   shares-succeeded moment h none = held-ended s later o.number
       (ap (dropped (is_held_by o.number)) (rows.held ∙ power_held))
       (ap (λ k. dropped (has_number o.number) k.live) (rows.operations ∙ power_operations))
@@ -150,7 +150,7 @@ module _ (s : State) (o : Operation Task) where
         done = success-rows s o.work (power_after s o.work) (h.whole.operations.deeds.at o (find-some (has_number o.number) s.operations.live o h.live).0)
 
 pub shares-closed : (s : State) → IsWhole s → AreHeld (record s { closed = true })
-unfolding share_of amounts_of_instance
+unfolding share_of amounts_of_instance part_of_share part_of_instance
 shares-closed s h = h.shares
 
 pub shares-telling : (s : State) (notices : List Untold) → IsWhole s → AreHeld (telling notices s)

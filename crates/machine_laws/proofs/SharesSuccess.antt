@@ -18,14 +18,15 @@ use Rattle.row_machine.specs.machine.Task.{Task}
 use Rattle.row_machine.specs.machine.State.{State}
 use Rattle.row_machine.specs.machine.Rows.{is_instance, instance_named, instance_names, with_instance, texts_before}
 use Rattle.row_machine.specs.machine.Changes.{has_key}
-use Rattle.row_machine.specs.machine.Claims.{claimed_instance, replaced_instance, amounts_of_instance, share_of}
+use Rattle.row_machine.specs.machine.Claims.{claimed_instance, replaced_instance, amounts_of_instance, part_of_instance}
 use Rattle.row_machine.specs.shown.Urls.{target_of}
 use Rattle.row_machine.specs.facts.Whole.{IsWhole, IsByDeed, IsPlaced, new_instance}
 use Rattle.row_machine.specs.machine.Deeds.{target_kind, keeps_name}
 use Rattle.machine_laws.proofs.ExpansionsApart.{fails-by, find-dropped_each}
 use Rattle.machine_laws.proofs.Found.{there-is, instance-found}
 use Rattle.machine_laws.proofs.LimitsRows.{Tables, tables, IsDone, stays, puts_volume, puts_instance, drops_instance, renames_instance_to, renames_none}
-use Rattle.machine_laws.proofs.SharesAlike.{share-alike}
+use Rattle.machine_laws.proofs.Expansions.{CountsAlike}
+use Rattle.machine_laws.proofs.SharesAlike.{HoldsAlike, share-alike}
 use Rattle.machine_laws.proofs.SharesApart.{Replaces, replaces-or_not, not-target, new-no_row, instance-so, instance-key, instance-row}
 
 -- an instance of other names that is put is not found
@@ -110,6 +111,15 @@ amounts-tables s t i projects profiles =
     ap (λ ps. amounts_of_instance (record s { projects = ps; profiles = t.profiles }) i) projects
     ∙ ap (λ rs. amounts_of_instance (record s { profiles = rs }) i) profiles
 
+part-tables : (s t : State) (i : Instance) → t.projects ≡ s.projects → t.profiles ≡ s.profiles → part_of_instance t i ≡ part_of_instance s i
+unfolding part_of_instance
+part-tables s t i projects profiles =
+    ap (λ ps. part_of_instance (record s { projects = ps; profiles = t.profiles }) i) projects
+    ∙ ap (λ rs. part_of_instance (record s { profiles = rs }) i) profiles
+
+pub counts-tables : (s t : State) (i : Instance) → t.projects ≡ s.projects → t.profiles ≡ s.profiles → CountsAlike s t i
+counts-tables s t i projects profiles = record { amounts = amounts-tables s t i projects profiles; part = part-tables s t i projects profiles }
+
 -- projects and profiles stay
 pub done-projects : (s : State) {task : Task} {later : Tables} → IsDone (tables s) task later
     → (later.projects ≡ s.projects) × (later.profiles ≡ s.profiles) × (later.networks ≡ s.networks)
@@ -122,7 +132,7 @@ done-projects s (renames_none i claim rename found e) = (ap (λ (t : Tables). t.
 
 -- the share of each other live operation
 pub share-done : (s : State) (o x : Operation Task) (t : State) → IsWhole s → live_at s.operations o.number ≡ Some o
-    → Mem x (dropped (has_number o.number) s.operations.live) → IsDone (tables s) o.work (tables t) → share_of t x.work ≡ share_of s x.work
+    → Mem x (dropped (has_number o.number) s.operations.live) → IsDone (tables s) o.work (tables t) → HoldsAlike s t x.work
 share-done s o x t h live other done = share-alike x.work (record {
   claimed = λ i is. same i;
   replaced = at (replaces-or_not s x.work (h.operations.deeds.at x x_live) (h.references.operations.at x x_live));
@@ -131,8 +141,8 @@ share-done s o x t h live other done = share-alike x.work (record {
   x_live : Mem x s.operations.live
   x_live = Mem-dropped x (has_number o.number) s.operations.live other
 
-  same : (i : Instance) → amounts_of_instance t i ≡ amounts_of_instance s i
-  same i = let rows = done-projects s done in amounts-tables s t i rows.0 rows.1
+  same : (i : Instance) → CountsAlike s t i
+  same i = let rows = done-projects s done in counts-tables s t i rows.0 rows.1
 
   by : State → Option (List ℕ × List ℕ) → Option Instance
   by u names = option_and_then (λ (n : List ℕ × List ℕ). instance_named u.instances n.0 n.1) names

@@ -20,7 +20,7 @@ use Rattle.records.specs.declared.rows.Row.{Row}
 use Rattle.row_machine.specs.machine.State.{State}
 use Rattle.row_machine.specs.machine.Rows.{default_name}
 use Rattle.row_machine.specs.machine.Kinds.{cap_of}
-use Rattle.row_machine.specs.machine.LimitRules.{part_exceeds, networks_exceed, limits_broken}
+use Rattle.row_machine.specs.machine.LimitRules.{part_exceeds, networks_exceed, pools_exceed, limits_broken}
 use Rattle.row_machine.specs.machine.TableRules.{row_kinds, too_large, size_of, largest_row}
 use Rattle.row_machine.specs.opening.Opening.{Opening, broken, broken_at, home_missing, parent_row_missing, profiles_malformed, defaults_missing, settings_invalid, devices_invalid, root_disk_missing, named_row_missing, forbidden, row_lacks_amount, row_rules, row_breaks, limit_breaks, past_cap, size_breaks, rows_break}
 use Rattle.machine_laws.proofs.OpeningRows.{of_kind}
@@ -68,13 +68,16 @@ module _ (s : State) (rows : List Row) (a : AreAccepted s rows) where
   unfolding limits_broken
   limits =
       let both = none_both (first_of (λ k. first_of (part_exceeds s s k) s.projects) parts) _ a.limits in
-      let more = none_both (first_of (networks_exceed s s) s.projects) None both.1 in
+      let more = none_both (first_of (networks_exceed s s) s.projects) _ both.1 in
+      let last = none_both (first_of (pools_exceed s s) s.projects) None more.1 in
       let of_parts : first_of (λ k. first_of (λ p. option_map (at_project p) (part_exceeds s s k p)) s.projects) parts ≡ None =
       none-first_of (λ k. first_of (λ p. option_map (at_project p) (part_exceeds s s k p)) s.projects) parts
       (Each-map (λ k none. mapped at_project (part_exceeds s s k) s.projects none) (first_of-none (λ k. first_of (part_exceeds s s k) s.projects) parts both.0)) in
       let of_networks : first_of (λ p. option_map (at_project p) (networks_exceed s s p)) s.projects ≡ None =
       mapped at_project (networks_exceed s s) s.projects more.0 in
-      none-first_of (λ (o : Option Opening). o) _ (Each-cons _ of_parts (Each-cons _ of_networks Each-none))
+      let of_pools : first_of (λ p. option_map (at_project p) (pools_exceed s s p)) s.projects ≡ None =
+      mapped at_project (pools_exceed s s) s.projects last.0 in
+      none-first_of (λ (o : Option Opening). o) _ (Each-cons _ of_parts (Each-cons _ of_networks (Each-cons _ of_pools Each-none)))
 
   -- ---- tables
 

@@ -21,6 +21,7 @@ use Rattle.restrictions.specs.Forbids.{first_forbidden}
 use Rattle.project_limits.specs.Admission.{limit_on}
 use Rattle.project_limits.specs.Limits.{limits_of}
 use Rattle.project_limits.specs.Countable.{first_without_amount, volume_without_amount}
+use Rattle.project_limits.specs.Pools.{pool_limit, pool_without_size, volume_pool_without_size}
 use Rattle.operations.specs.declared.operation.Operation.{Operation}
 use Rattle.operations.specs.declared.status.Status.{Status}
 use Rattle.operations.specs.declared.status.Status.TheVariants as status
@@ -35,8 +36,8 @@ use Rattle.row_machine.specs.machine.State.{State}
 use Rattle.row_machine.specs.machine.Rows.{profile_named}
 use Rattle.row_machine.specs.machine.Homes.{home_of}
 use Rattle.row_machine.specs.machine.Expansions.{layers_by, expanded_of}
-use Rattle.row_machine.specs.machine.Claims.{judged_instances, judged_volumes, share_of}
-use Rattle.row_machine.specs.machine.Usage.{usage_of, networks_of}
+use Rattle.row_machine.specs.machine.Claims.{judged_instances, judged_volumes, part_of_share, share_of}
+use Rattle.row_machine.specs.machine.Usage.{usage_of, used_on, networks_of}
 use Rattle.row_machine.specs.machine.PolicyRules.{subject_of}
 use Rattle.row_machine.specs.machine.Accept.{After}
 use Rattle.row_machine.specs.machine.Step.{Outcome, step}
@@ -57,25 +58,30 @@ abbrev pub layers_of : State → Instance → List Expanded
 layers_of state instance =
     layers_by (profile_named state.profiles (home_of state.projects instance.project kind.Profile)) instance
 
--- whether an instance, or a volume, of a project gives a number for each sum that the project limits
+-- whether an instance, or a volume, of a project gives a number for each sum that the project limits, and a size where
+-- its pool is limited
 abbrev pub HasAmounts : State → Project → Instance → Type 0
 HasAmounts state project instance =
     instance.project ≡ project.name
-    → first_without_amount (limits_of project.config) instance.kind (has state instance).config
+    → (first_without_amount (limits_of project.config) instance.kind (has state instance).config
     (has state instance).devices
-    ≡ None
+    ≡ None)
+    × (pool_without_size project.config (has state instance).devices ≡ None)
 
 abbrev pub VolumeHasAmount : Project → Volume → Type 0
 VolumeHasAmount project volume = volume.project ≡ project.name
-    → volume_without_amount (limits_of project.config) volume.config ≡ None
+    → (volume_without_amount (limits_of project.config) volume.config ≡ None)
+    × (volume_pool_without_size project.config volume.pool volume.config ≡ None)
 
 -- Each part of a project's usage, claims included, is at most the limit on it that the project sets, and so is the
--- number of its networks. Each of its instances and volumes, also those that an operation is about to put, is
+-- number of its networks and what it uses of each pool. Each of its instances and volumes, also those that an operation is about to put, is
 -- countable.
 pub record KeepsLimits (state : State) (project : Project) : Type 0 where
   pub usage : (a_part : Part)
       → IfSome (limit_on a_part (limits_of project.config)) (λ limit. part a_part (usage_of state project.name) ≤ limit)
   pub networks : IfSome (limits_of project.config).networks (λ limit. networks_of state project.name ≤ limit)
+  pub pools : (pool : List ℕ)
+      → IfSome (pool_limit project.config pool) (λ limit. used_on state project.name pool ≤ limit)
   pub instances : Each (HasAmounts state project) (judged_instances state)
   pub volumes : Each (VolumeHasAmount project) (judged_volumes state)
 
@@ -105,12 +111,15 @@ pub record HasItsLayers (state : State) (instance : Instance) : Type 0 where
   pub devices : (name : List ℕ)
       → device (has state instance).devices name ≡ expanded_device (layers_of state instance) name
 
--- the books balance: of the shares that were granted to operations each was converted, or returned, or is still held
-abbrev pub BooksBalance : State → Type 0
-BooksBalance state = (a_part : Part) →
-    part a_part state.books.granted
-    ≡ part a_part state.books.converted + part a_part state.books.returned
-    + sum_by (λ hold. part a_part hold.share) state.held
+-- the books balance: of the shares that were granted to operations each was converted, or returned, or is still held,
+-- and so was what of them is on pools
+pub record BooksBalance (state : State) : Type 0 where
+  pub parts : (a_part : Part)
+      → part a_part state.books.granted
+      ≡ part a_part state.books.converted + part a_part state.books.returned
+      + sum_by (λ hold. part a_part hold.share) state.held
+  pub pools : state.books.pool_granted
+      ≡ state.books.pool_converted + state.books.pool_returned + sum_by (λ hold. hold.part.disk) state.held
 
 -- what stands at the end of each turn
 pub record StandsAsPromised (state : State) : Type 0 where
@@ -125,18 +134,37 @@ pub record StandsAsPromised (state : State) : Type 0 where
 abbrev pub IsKeptAs : State → Operation Task → Status → Type 0
 IsKeptAs state operation now = option_map (λ kept. kept.status) (kept_at state.operations operation.number) ≡ Some now
 
+-- one of the books: its amounts, and its bytes on pools
+pub record Book : Type 0 where
+  pub amounts : Amounts
+  pub pools : ℕ
+
+abbrev pub converted_book : State → Book
+converted_book state = record { amounts = state.books.converted; pools = state.books.pool_converted }
+
+abbrev pub returned_book : State → Book
+returned_book state = record { amounts = state.books.returned; pools = state.books.pool_returned }
+
 -- the whole share of an operation was added to this book
-abbrev pub Takes : State → Operation Task → Amounts → Amounts → Type 0
-Takes state operation before after = (a_part : Part)
-    → part a_part after ≡ part a_part before + part a_part (share_of state operation.work)
+pub record Takes (state : State) (operation : Operation Task) (before after : Book) : Type 0 where
+  pub parts : (a_part : Part)
+      → part a_part after.amounts ≡ part a_part before.amounts + part a_part (share_of state operation.work)
+  pub pools : after.pools ≡ before.pools + (part_of_share state operation.work).disk
+
+-- a book stands as it was
+pub record Stands (before after : Book) : Type 0 where
+  pub amounts : after.amounts ≡ before.amounts
+  pub pools : after.pools ≡ before.pools
 
 -- How an operation ended, and where its share went: the whole of it to its object, or the whole of it back.
 pub data EndsWhole (state later : State) (operation : Operation Task) : Type 0 where
   became_its_objects : IsKeptAs later operation status.Success
-      → Takes state operation state.books.converted later.books.converted → later.books.returned ≡ state.books.returned
+      → Takes state operation (converted_book state) (converted_book later)
+      → Stands (returned_book state) (returned_book later)
       → EndsWhole state later operation
   went_back : IsKeptAs later operation status.Failure ⊎ IsKeptAs later operation status.Cancelled
-      → Takes state operation state.books.returned later.books.returned → later.books.converted ≡ state.books.converted
+      → Takes state operation (returned_book state) (returned_book later)
+      → Stands (converted_book state) (converted_book later)
       → EndsWhole state later operation
 
 -- each operation that is live before a turn and not after it ended so

@@ -1,2 +1,3 @@
+mod Limited
 mod OfHome
 mod Numbered

@@ -1,7 +1,7 @@
 -- Lists of volumes and of snapshots: of the rows of a project, those of a pool or of an instance.
 use Rattle.std.proofs.Common.{◌≡◌, ℕ, Bool, true, false, ◌&&◌, cond, List, [], ◌∷◌, filter, map, refl, sym, ap, subst, ◌∙◌}
 use Rattle.std.specs.Str.{bytes_eq}
-use Rattle.row_machine.specs.Words.{ObjectKind, Row, Target}
+use Rattle.row_machine.specs.Words.{Row, Target}
 use Rattle.row_machine.specs.Words.kind
 use Rattle.row_machine.specs.Words.row
 use Rattle.records.specs.declared.rows.Snapshot.{Snapshot}

@@ -1,5 +1,5 @@
 -- In tables in which no two lines meet, each line by itself is the rule of its keys.
-use Rattle.std.proofs.Common.{◌≡◌, ℕ, zero, suc, ◌≤◌, Bool, true, false, not, cond, ◌&&◌, ◌||◌, List, [], ◌∷◌, length, take, slice_get, find, map, Some, nat_eq, nat_lt, refl, sym, ap, subst, inl, inr, ◌∙◌, arith}
+use Rattle.std.proofs.Common.{◌≡◌, ℕ, zero, suc, ◌≤◌, Bool, true, false, not, cond, ◌&&◌, ◌||◌, List, [], ◌∷◌, length, take, drop, slice_get, find, map, Some, nat_eq, nat_lt, refl, sym, ap, subst, inl, inr, ◌∙◌, arith}
 use Rattle.std.specs.List.{list_all, starts_with}
 use Rattle.std.specs.Str.{bytes_eq}
 use Rattle.std.proofs.lemmas.List.{take-take}
@@ -7,8 +7,10 @@ use Rattle.std.proofs.lemmas.Bool.{cases_lt}
 use Rattle.std.proofs.lemmas.Option.{same_Some, slice_get-map}
 use Rattle.std.specs.Option.{option_map}
 use Rattle.config_lists.proofs.Keys.{same, bytes_eq-itself}
-use Rattle.option_tables.specs.Tables.{front_of, has_star, takes}
-use Rattle.option_tables.specs.Apart.{meet, are_apart}
+use Rattle.estate_rules.specs.Names.{good_name_of}
+use Rattle.size_values.specs.declared.kinds.ObjectKind.TheVariants.{Pool}
+use Rattle.option_tables.specs.Tables.{front_of, has_sign, has_star, takes}
+use Rattle.option_tables.specs.Apart.{is_front, meet, are_apart}
 
 -- parts of tests
 both_left : (a b : Bool) → (a && b) ≡ true → a ≡ true
@@ -34,16 +36,42 @@ begins key p q shorter is_p is_q = ap (bytes_eq p) (sym along) ∙ bytes_eq-itse
     along : p ≡ take (length p) q
     along = same p (take (length p) key) is_p ∙ sym (take-take (length p) (length q) key shorter) ∙ ap (take (length p)) (sym (same q (take (length q) key) is_q))
 
--- what it is that a line takes a key: with a star its front begins the key, without one it is the key
-star : (x key : List ℕ) → has_star x ≡ true → takes x key ≡ true → starts_with nat_eq key (front_of x) ≡ true
-star x key is taken = both_right (nat_lt (length (front_of x)) (length key)) (starts_with nat_eq key (front_of x)) (sym (ap (λ s. cond s (nat_lt (length (front_of x)) (length key) && starts_with nat_eq key (front_of x)) (bytes_eq x key)) is) ∙ taken)
+-- what it is that a line takes a key: where it stands for others its front begins the key, else it is the key
+front : (x key : List ℕ) → is_front x ≡ true → takes x key ≡ true → starts_with nat_eq key (front_of x) ≡ true
+front x key is taken = at (has_sign x) (has_star x) is taken where
+  starts : Bool
+  starts = starts_with nat_eq key (front_of x)
 
-plain : (x key : List ℕ) → has_star x ≡ false → takes x key ≡ true → x ≡ key
-plain x key is taken = same x key (sym (ap (λ s. cond s (nat_lt (length (front_of x)) (length key) && starts_with nat_eq key (front_of x)) (bytes_eq x key)) is) ∙ taken)
+  named : Bool
+  named = good_name_of Pool (drop (length (front_of x)) key)
+
+  longer : Bool
+  longer = nat_lt (length (front_of x)) (length key)
+
+  at : (sign star : Bool) → (sign || star) ≡ true → cond sign (starts && named) (cond star (longer && starts) (bytes_eq x key)) ≡ true → starts ≡ true
+  at true star is taken = both_left starts named taken
+  at false true is taken = both_right longer starts taken
+  at false false is taken = cc
+
+plain : (x key : List ℕ) → is_front x ≡ false → takes x key ≡ true → x ≡ key
+plain x key is taken = at (has_sign x) (has_star x) is taken where
+  starts : Bool
+  starts = starts_with nat_eq key (front_of x)
+
+  named : Bool
+  named = good_name_of Pool (drop (length (front_of x)) key)
+
+  longer : Bool
+  longer = nat_lt (length (front_of x)) (length key)
+
+  at : (sign star : Bool) → (sign || star) ≡ false → cond sign (starts && named) (cond star (longer && starts) (bytes_eq x key)) ≡ true → x ≡ key
+  at true star is taken = cc
+  at false true is taken = cc
+  at false false is taken = same x key taken
 
 -- two lines that take one key meet
 pub meets : (a b key : List ℕ) → takes a key ≡ true → takes b key ≡ true → meet a b ≡ true
-meets a b key by_a by_b = cases (has_star a) (has_star b) refl refl
+meets a b key by_a by_b = cases (is_front a) (is_front b) refl refl
   where
     both : Bool
     both = starts_with nat_eq (front_of a) (front_of b) || starts_with nat_eq (front_of b) (front_of a)
@@ -51,19 +79,19 @@ meets a b key by_a by_b = cases (has_star a) (has_star b) refl refl
     one : Bool
     one = takes a b || takes b a
 
-    fronts : has_star a ≡ true → has_star b ≡ true → both ≡ true
+    fronts : is_front a ≡ true → is_front b ≡ true → both ≡ true
     fronts is_a is_b = elim (cases_lt (length (front_of a)) (length (front_of b))) [
-      | inl less ↦ either_right (starts_with nat_eq (front_of a) (front_of b)) (starts_with nat_eq (front_of b) (front_of a)) (begins key (front_of a) (front_of b) (omega arith) (star a key is_a by_a) (star b key is_b by_b))
-      | inr more ↦ either_left (starts_with nat_eq (front_of a) (front_of b)) (starts_with nat_eq (front_of b) (front_of a)) (begins key (front_of b) (front_of a) more (star b key is_b by_b) (star a key is_a by_a))
+      | inl less ↦ either_right (starts_with nat_eq (front_of a) (front_of b)) (starts_with nat_eq (front_of b) (front_of a)) (begins key (front_of a) (front_of b) (omega arith) (front a key is_a by_a) (front b key is_b by_b))
+      | inr more ↦ either_left (starts_with nat_eq (front_of a) (front_of b)) (starts_with nat_eq (front_of b) (front_of a)) (begins key (front_of b) (front_of a) more (front b key is_b by_b) (front a key is_a by_a))
     ]
 
-    cases : (s t : Bool) → has_star a ≡ s → has_star b ≡ t → meet a b ≡ true
-    cases true true is_a is_b = ap (λ x. cond (x && has_star b) both one) is_a ∙ ap (λ x. cond x both one) is_b ∙ fronts is_a is_b
+    cases : (s t : Bool) → is_front a ≡ s → is_front b ≡ t → meet a b ≡ true
+    cases true true is_a is_b = ap (λ x. cond (x && is_front b) both one) is_a ∙ ap (λ x. cond x both one) is_b ∙ fronts is_a is_b
     cases true false is_a is_b =
-        ap (λ x. cond (x && has_star b) both one) is_a ∙ ap (λ x. cond x both one) is_b
+        ap (λ x. cond (x && is_front b) both one) is_a ∙ ap (λ x. cond x both one) is_b
         ∙ either_left (takes a b) (takes b a) (ap (takes a) (plain b key is_b by_b) ∙ by_a)
     cases false t is_a is_b =
-        ap (λ x. cond (x && has_star b) both one) is_a
+        ap (λ x. cond (x && is_front b) both one) is_a
         ∙ either_right (takes a b) (takes b a) (ap (takes b) (plain a key is_a by_a) ∙ by_b)
 
 -- a line that meets no other takes no key of theirs

@@ -3,12 +3,16 @@ use Rattle.std.specs.Prelude.{ℕ, Bool, true, not, ◌&&◌, ◌||◌, List, []
 use Rattle.std.specs.List.{list_all, starts_with}
 use Rattle.option_tables.specs.declared.form.Form.{Form}
 use Rattle.option_tables.specs.declared.tables.DeviceType.TheVariants as device
-use Rattle.option_tables.specs.Tables.{front_of, has_star, takes, project_lines, network_lines, pool_lines}
-use Rattle.option_tables.specs.Tables.{volume_lines, device_lines}
+use Rattle.option_tables.specs.Tables.{front_of, has_sign, has_star, takes, project_lines, network_lines}
+use Rattle.option_tables.specs.Tables.{pool_lines, volume_lines, device_lines}
+
+-- whether a line stands for other keys than itself
+abbrev pub is_front : List ℕ → Bool
+is_front line = has_sign line || has_star line
 
 -- whether some key may be taken by both lines
 abbrev pub meet : List ℕ → List ℕ → Bool
-meet line other = if has_star line && has_star other then starts_with nat_eq (front_of line) (front_of other)
+meet line other = if is_front line && is_front other then starts_with nat_eq (front_of line) (front_of other)
     || starts_with nat_eq (front_of other) (front_of line) else takes line other || takes other line
 
 -- no line meets one after it

@@ -1,9 +1,11 @@
 -- The tables, read: which form the values of a key have.
-use Rattle.std.specs.Prelude.{ℕ, ◌-◌, ◌==◌, Bool, true, false, ◌&&◌, List, [], map, length, take, slice_index, Option}
+use Rattle.std.specs.Prelude.{ℕ, ◌-◌, ◌==◌, Bool, true, false, ◌&&◌, List, [], map, length, take, drop, slice_index, Option}
 use Rattle.std.specs.Prelude.{Some, None, if◌then◌else◌, find, codes, nat_eq, nat_le, nat_lt}
 use Rattle.std.specs.List.{starts_with}
 use Rattle.std.specs.Option.{option_map}
 use Rattle.std.specs.Str.{bytes_eq, byte}
+use Rattle.size_values.specs.declared.kinds.ObjectKind.TheVariants.{Pool}
+use Rattle.estate_rules.specs.Names.{good_name_of}
 use Rattle.option_tables.specs.declared.form.Form.{Form}
 use Rattle.option_tables.specs.declared.form.Form.TheVariants as form
 use Rattle.option_tables.specs.declared.tables.Scope.{Scope}
@@ -23,11 +25,23 @@ front_of line = take (length line - 1) line
 abbrev pub has_star : List ℕ → Bool
 has_star line = nat_lt 0 (length line) && slice_index line (length line - 1) == byte "*"
 
--- whether the key of a line stands for a key: it is the same, or it ends in a star and the key is longer and begins
--- alike
-abbrev pub takes : List ℕ → List ℕ → Bool
-takes line key = if has_star line then nat_lt (length (front_of line)) (length key)
+-- whether the line ends in the sign for the name of a pool
+abbrev pub has_sign : List ℕ → Bool
+has_sign line = nat_lt 0 (length line) && slice_index line (length line - 1) == byte "#"
+
+-- whether a key begins so and goes on with a good name of a pool
+abbrev pub takes_pool : List ℕ → List ℕ → Bool
+takes_pool front key = starts_with nat_eq key front && good_name_of Pool (drop (length front) key)
+
+-- whether a line without that sign stands for a key: it is the same, or it ends in a star and the key is longer and
+-- begins alike
+abbrev pub takes_plainly : List ℕ → List ℕ → Bool
+takes_plainly line key = if has_star line then nat_lt (length (front_of line)) (length key)
     && starts_with nat_eq key (front_of line) else bytes_eq line key
+
+-- whether the key of a line stands for a key
+abbrev pub takes : List ℕ → List ℕ → Bool
+takes line key = if has_sign line then takes_pool (front_of line) key else takes_plainly line key
 
 -- whether a check for these instances takes an option for those
 abbrev pub is_for : Scope → Scope → Bool

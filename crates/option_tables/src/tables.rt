@@ -1,9 +1,11 @@
 ghost use Rattle.std.specs.Prelude.{◌≡◌, map};
 ghost use Rattle.option_tables.specs.Tables.{form_of, instance_lines, project_lines, network_lines, pool_lines};
 ghost use Rattle.option_tables.specs.Tables.{volume_lines, device_form, device_lines, device_type, form_in};
-ghost use Rattle.option_tables.specs.Tables.{scoped_form_in, type_in, takes, is_for};
+ghost use Rattle.option_tables.specs.Tables.{scoped_form_in, type_in, takes, takes_plainly, takes_pool, is_for};
 
 use crate::form::{Form, Words};
+use estate_rules::good_name;
+use size_values::ObjectKind;
 
 /// Which kind of instance an option is for, or is checked for. `Any` stands for both, as in a profile.
 #[derive(Clone, Copy, PartialEq, Eq)]
@@ -36,7 +38,8 @@ pub enum DeviceType {
     Usb,
 }
 
-/// A key with the form of its values. A key that ends in `*` stands for every longer key that begins alike.
+/// A key with the form of its values. A key that ends in `*` stands for every longer key that begins alike, and one
+/// that ends in `#` for every key that begins alike and goes on with a good name of a storage pool.
 pub type Line = (&'static str, Form);
 
 const MANY: u64 = 1_000_000;
@@ -123,6 +126,7 @@ pub const PROJECT: &[Line] = &[
     ("limits.containers", Form::Count(0, HUGE)),
     ("limits.cpu", Form::Count(0, HUGE)),
     ("limits.disk", Form::Size),
+    ("limits.disk.pool.#", Form::Size),
     ("limits.instances", Form::Count(0, HUGE)),
     ("limits.memory", Form::Size),
     ("limits.networks", Form::Count(0, HUGE)),
@@ -421,10 +425,29 @@ impl Scope {
     }
 }
 
-/// Whether a key of a table stands for this key: it is the same, or it ends in `*` and this one is longer and
-/// begins alike.
+/// Whether a key of a table stands for this key: it is the same; or it ends in `*` and this one is longer and begins
+/// alike; or it ends in `#` and this one begins alike and goes on with a good name of a storage pool.
 pub fn takes_key(line: &str, key: &str) -> bool
     ensures { result ≡ takes line.now key.now }
+{
+    match line.strip_suffix('#') {
+        Some(front) => takes_pool(front, key),
+        None => takes_plainly(line, key),
+    }
+}
+
+/// Whether a key begins so and goes on with a good name of a pool.
+fn takes_pool(front: &str, key: &str) -> bool
+    ensures { result ≡ takes_pool front.now key.now }
+{
+    match key.strip_prefix(front) {
+        Some(name) => good_name(ObjectKind::Pool, name),
+        None => false,
+    }
+}
+
+fn takes_plainly(line: &str, key: &str) -> bool
+    ensures { result ≡ takes_plainly line.now key.now }
 {
     match line.as_bytes() {
         [front @ .., b'*'] => front.len() < key.len() && key.as_bytes().starts_with(front),

@@ -18,6 +18,7 @@ pub enum LimitKey {
     Processes,
     Disk,
     Networks,
+    DiskOnPool,
 }
 
 /// A limit that would be exceeded: what is used, what is asked for beside it, and the limit.

@@ -87,7 +87,7 @@ pub(crate) fn processes_in(kind: Kind, config: &Config) -> Option<u64>
 
 /// The size of the one root disk, where there is one and it has one.
 #[tactic(auto, unfolding(crate::specs::Instance::disk_in))]
-pub(crate) fn disk_in(devices: &Devices) -> Option<u64>
+pub fn disk_in(devices: &Devices) -> Option<u64>
     ensures { result ≡ disk_in devices.now }
 {
     match devices.root() {

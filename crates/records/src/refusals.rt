@@ -78,7 +78,7 @@ pub enum Rule {
     F8,
     /// 403: a limited project has a setting that is not countable; tells the setting, its object and the project.
     L0,
-    /// 403: too many instances; tells used, asked and limit, the limit's key and the project, as all of L1 to L8.
+    /// 403: too many instances; tells used, asked and limit, the limit's key and the project, as all of L1 to L9.
     L1,
     /// 403: too many containers.
     L2,
@@ -94,6 +94,8 @@ pub enum Rule {
     L7,
     /// 403: too many networks.
     L8,
+    /// 403: too much disk on a storage pool, in bytes.
+    L9,
     /// 400: the operation has ended; tells its status and number.
     O1,
     /// 400: the operation may not be cancelled; tells its number.

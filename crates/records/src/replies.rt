@@ -22,8 +22,8 @@ pub struct OpView {
     pub target: Target,
 }
 
-/// The limits of a project, each named after its key without `limits.`.
-#[derive(Clone, Copy, PartialEq, Eq)]
+/// The limits of a project, each named after its key without `limits.`; that on a storage pool with the pool's name.
+#[derive(Drop)]
 pub enum LimitKeyName {
     Instances,
     Containers,
@@ -33,6 +33,7 @@ pub enum LimitKeyName {
     Processes,
     Disk,
     Networks,
+    DiskOnPool(Text),
 }
 
 /// One line of a project's state: how much of a limit is used, and the limit where one is set.

@@ -1,10 +1,12 @@
-use Rattle.std.specs.Prelude.{ℕ, ◌==◌, Bool, Option, List, if◌then◌else◌}
+use Rattle.std.specs.Prelude.{ℕ, ◌+◌, ◌==◌, Bool, Option, List, if◌then◌else◌}
 use Rattle.std.specs.List.{find, sum_by}
 use Rattle.std.specs.Option.{option_map}
 use Rattle.std.specs.Str.{bytes_eq}
 use Rattle.size_values.specs.declared.amounts.Amounts.{Amounts}
 use Rattle.size_values.specs.declared.amounts.Part.{Part}
+use Rattle.size_values.specs.declared.pool_part.PoolPart.{PoolPart}
 use Rattle.size_values.specs.Amounts.{nothing, part, plus_of}
+use Rattle.size_values.specs.PoolParts.{on_pool}
 use Rattle.reservations.specs.declared.books.Hold.{Hold}
 use Rattle.reservations.specs.declared.books.Books.{Books}
 
@@ -18,7 +20,14 @@ pub record Holdings : Type 0 where
 
 -- nothing was granted yet
 abbrev pub no_books : Books
-no_books = record { granted = nothing; converted = nothing; returned = nothing }
+no_books = record {
+  granted = nothing;
+  converted = nothing;
+  returned = nothing;
+  pool_granted = 0;
+  pool_converted = 0;
+  pool_returned = 0;
+}
 
 -- whether it is the share of this operation
 abbrev pub has_op : ℕ → Hold → Bool
@@ -44,12 +53,27 @@ held_part a_part project holds = sum_by (counted a_part project) holds
 abbrev pub all_part : Part → List Hold → ℕ
 all_part a_part holds = sum_by (λ hold. part a_part hold.share) holds
 
--- the books after this share was granted, was converted, was returned
-abbrev pub granted_more : Amounts → Books → Books
-granted_more share books = record books { granted = plus_of books.granted share }
+-- what a share has on a pool for a project: nothing, if it is of another one
+abbrev pub counted_on : List ℕ → List ℕ → Hold → ℕ
+counted_on project pool hold = if bytes_eq hold.project project then on_pool pool hold.part else 0
 
-abbrev pub converted_more : Amounts → Books → Books
-converted_more share books = record books { converted = plus_of books.converted share }
+-- what the operations of a project hold on a pool
+abbrev pub held_on : List ℕ → List ℕ → List Hold → ℕ
+held_on project pool holds = sum_by (counted_on project pool) holds
 
-abbrev pub returned_more : Amounts → Books → Books
-returned_more share books = record books { returned = plus_of books.returned share }
+-- all that is held on pools
+abbrev pub all_on_pools : List Hold → ℕ
+all_on_pools holds = sum_by (λ hold. hold.part.disk) holds
+
+-- the books after this share, with its part on a pool, was granted, was converted, was returned
+abbrev pub granted_more : Amounts → PoolPart → Books → Books
+granted_more share on books =
+    record books { granted = plus_of books.granted share; pool_granted = books.pool_granted + on.disk }
+
+abbrev pub converted_more : Amounts → PoolPart → Books → Books
+converted_more share on books =
+    record books { converted = plus_of books.converted share; pool_converted = books.pool_converted + on.disk }
+
+abbrev pub returned_more : Amounts → PoolPart → Books → Books
+returned_more share on books =
+    record books { returned = plus_of books.returned share; pool_returned = books.pool_returned + on.disk }

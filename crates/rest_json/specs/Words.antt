@@ -1,5 +1,5 @@
 -- How statuses, kinds, drivers and limits are written in replies.
-use Rattle.std.specs.Prelude.{ℕ, List, [], codes}
+use Rattle.std.specs.Prelude.{ℕ, List, [], ◌++◌, codes}
 use Rattle.size_values.specs.declared.kinds.Kind.{Kind}
 use Rattle.size_values.specs.declared.kinds.Kind.TheVariants.{Container, Machine}
 use Rattle.size_values.specs.declared.kinds.Power.{Power}
@@ -37,7 +37,7 @@ driver_text Btrfs = codes "btrfs"
 driver_text Lvm = codes "lvm"
 driver_text Zfs = codes "zfs"
 
--- the key of a limit without `limits.`
+-- the key of a limit without `limits.`; that of a limit on a pool ends with the pool's name
 abbrev pub limit_name : LimitKeyName → List ℕ
 limit_name limit.Instances = codes "instances"
 limit_name limit.Containers = codes "containers"
@@ -47,6 +47,7 @@ limit_name limit.Memory = codes "memory"
 limit_name limit.Processes = codes "processes"
 limit_name limit.Disk = codes "disk"
 limit_name limit.Networks = codes "networks"
+limit_name (limit.DiskOnPool pool) = codes "disk.pool." ++ pool
 
 -- what made an operation fail
 abbrev pub fault_text : OpFault → List ℕ

@@ -53,7 +53,8 @@ fn lines_value(alloc: Global, lines: &Seq<UsageLine>) -> Result<Value, NoMemory>
 {
     let mut object = Object::new(alloc);
     for line in lines.view() {
-        object.put(limit_name(line.key), line_value(alloc, line)?)?;
+        let name = limit_name(alloc, &line.key)?;
+        object.put(name.view(), line_value(alloc, line)?)?;
     }
     Ok(object.into_value())
 }

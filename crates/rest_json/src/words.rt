@@ -1,11 +1,12 @@
-ghost use Rattle.std.specs.Prelude.{◌≡◌};
+ghost use Rattle.std.specs.Prelude.{◌≡◌, IfOk};
 ghost use Rattle.row_machine.specs.machine.TableRules.{status_text};
 ghost use Rattle.row_machine.specs.machine.StandingRules.{power_text};
 ghost use Rattle.rest_json.specs.Words.{status_code, status_key, power_code, instance_kind, driver_text, limit_name};
 ghost use Rattle.rest_json.specs.Words.{fault_text, error_text};
 
 use records::{Driver, LimitKeyName, OpFault, Status};
-use size_values::{Kind, Power};
+use size_values::{Kind, NoMemory, Power, Text};
+use std::alloc::Global;
 
 /// How a status is written.
 pub(crate) fn status_text(status: Status) -> &'static str
@@ -96,18 +97,19 @@ pub(crate) fn driver_text(driver: Driver) -> &'static str
 }
 
 /// The key of a limit without `limits.`.
-pub(crate) fn limit_name(limit: LimitKeyName) -> &'static str
-    ensures { result.now ≡ limit_name limit }
+pub(crate) fn limit_name(alloc: Global, limit: &LimitKeyName) -> Result<Text, NoMemory>
+    ensures { IfOk result (λ name. name ≡ limit_name limit.now) }
 {
     match limit {
-        LimitKeyName::Instances => "instances",
-        LimitKeyName::Containers => "containers",
-        LimitKeyName::Machines => "virtual-machines",
-        LimitKeyName::Cpu => "cpu",
-        LimitKeyName::Memory => "memory",
-        LimitKeyName::Processes => "processes",
-        LimitKeyName::Disk => "disk",
-        LimitKeyName::Networks => "networks",
+        LimitKeyName::Instances => Text::from_text(alloc, "instances"),
+        LimitKeyName::Containers => Text::from_text(alloc, "containers"),
+        LimitKeyName::Machines => Text::from_text(alloc, "virtual-machines"),
+        LimitKeyName::Cpu => Text::from_text(alloc, "cpu"),
+        LimitKeyName::Memory => Text::from_text(alloc, "memory"),
+        LimitKeyName::Processes => Text::from_text(alloc, "processes"),
+        LimitKeyName::Disk => Text::from_text(alloc, "disk"),
+        LimitKeyName::Networks => Text::from_text(alloc, "networks"),
+        LimitKeyName::DiskOnPool(pool) => Text::joined(alloc, "disk.pool.", pool.view()),
     }
 }
 

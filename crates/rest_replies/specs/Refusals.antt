@@ -6,7 +6,7 @@ use Rattle.records.specs.declared.refusals.Rule.TheVariants.{A4, A5, A6, N1, N2,
 use Rattle.records.specs.declared.refusals.Rule.TheVariants.{N5, B1, B2, B3, B4, B5, B6}
 use Rattle.records.specs.declared.refusals.Rule.TheVariants.{V1, V2, V3, V4, V5, F1, F2, F3}
 use Rattle.records.specs.declared.refusals.Rule.TheVariants.{F4, F5, F6, F7, F8, L0, L1}
-use Rattle.records.specs.declared.refusals.Rule.TheVariants.{L2, L3, L4, L5, L6, L7, L8, O1}
+use Rattle.records.specs.declared.refusals.Rule.TheVariants.{L2, L3, L4, L5, L6, L7, L8, L9, O1}
 use Rattle.records.specs.declared.refusals.Rule.TheVariants.{O2, O3, O4, O5, C1, C2, K1, M1}
 use Rattle.records.specs.declared.refusals.Details.{Details}
 use Rattle.records.specs.declared.refusals.Refusal.{Refusal}
@@ -81,6 +81,7 @@ rule_line L5 = line (codes "L5") 403 (codes "limit is exceeded") of_limit
 rule_line L6 = line (codes "L6") 403 (codes "limit is exceeded") of_limit
 rule_line L7 = line (codes "L7") 403 (codes "limit is exceeded") of_limit
 rule_line L8 = line (codes "L8") 403 (codes "limit is exceeded") of_limit
+rule_line L9 = line (codes "L9") 403 (codes "limit is exceeded") of_limit
 rule_line O1 = line (codes "O1") 400 (codes "operation has ended") (part.Key ∷ part.Number ∷ [])
 rule_line O2 = line (codes "O2") 400 (codes "operation may not be cancelled") (part.Number ∷ [])
 rule_line O3 = line (codes "O3") 400 (codes "operation is being cancelled") (part.Number ∷ [])

@@ -121,6 +121,7 @@ fn rule_line(rule: Rule) -> RuleLine
         L6 => line("L6", 403, "limit is exceeded", LIMIT),
         L7 => line("L7", 403, "limit is exceeded", LIMIT),
         L8 => line("L8", 403, "limit is exceeded", LIMIT),
+        L9 => line("L9", 403, "limit is exceeded", LIMIT),
         O1 => line("O1", 400, "operation has ended", &[Key, Number]),
         O2 => line("O2", 400, "operation may not be cancelled", &[Number]),
         O3 => line("O3", 400, "operation is being cancelled", &[Number]),

@@ -1,11 +1,14 @@
 -- The facts hold of a new server, computed.
-use Rattle.std.proofs.Common.{◌≤◌, [], ◌∷◌, refl, arith}
+use Rattle.std.proofs.Common.{◌≡◌, ◌+◌, ◌≤◌, [], ◌∷◌, refl, arith}
 use Rattle.plain_lists.specs.Members.{Each}
 use Rattle.plain_lists.proofs.Elements.{Each-none, Each-cons}
 use Rattle.size_values.specs.declared.amounts.Part.{Part}
 use Rattle.size_values.specs.declared.amounts.Part.TheVariants.{Instances, Containers, Machines, Cpu, Memory, Processes, Disk}
 use Rattle.operations.proofs.KeptLemmas.{AreKept-none}
 use Rattle.row_machine.specs.facts.Laws.{NewIsWhole}
+use Rattle.std.specs.List.{sum_by}
+use Rattle.size_values.specs.Amounts.{part}
+use Rattle.reservations.specs.declared.books.Hold.{Hold}
 use Rattle.row_machine.specs.facts.Whole.{AreNamed, ReferencesExist, HasDefaults, AreSettled, AreOperations, AreWithin, AreBalanced, AreFew}
 use Rattle.row_machine.specs.examples.Scenes.{begin}
 use Rattle.std.specs.Prelude.{IfSome}
@@ -37,14 +40,15 @@ use Rattle.project_limits.specs.Admission.{first_over, networks_over}
 use Rattle.project_limits.specs.Countable.{first_without_amount, volume_without_amount}
 use Rattle.project_limits.specs.Instance.{cpu_in, memory_in, disk_in, instance_amounts, volume_amounts}
 use Rattle.project_limits.specs.Limits.{count_in, size_in, limits_of}
+use Rattle.project_limits.specs.Pools.{pool_limit, limited_pools, root_pool, pool_without_size, volume_pool_without_size, root_part, sized_part}
 use Rattle.row_codec.specs.Reading.{count_at, number_at, moment_at, code_at, text_at, items_at, list_at, filled_at, next_at, next_filled_at, setting_at, device_at, shape_at, project_in, profile_in, network_in, pool_in, volume_in, instance_in, snapshot_in, two_names_in, three_names_in, read_project, read_profile, read_network, read_pool, read_volume, read_instance, read_snapshot, row_at}
 use Rattle.row_codec.specs.Spelling.{text_bytes, number_bytes, list_bytes}
 use Rattle.row_machine.specs.machine.Accept.{accepted}
-use Rattle.row_machine.specs.machine.Claims.{judged_instances, judged_volumes, amounts_of_instance, share_of}
+use Rattle.row_machine.specs.machine.Claims.{judged_instances, judged_volumes, amounts_of_instance, part_of_instance, share_of, part_of_share}
 use Rattle.row_machine.specs.machine.Expansions.{expanded_of}
 use Rattle.row_machine.specs.machine.Holders.{busy_with, holder_of, first_user_of}
 use Rattle.row_machine.specs.machine.Homes.{home_of}
-use Rattle.row_machine.specs.machine.LimitRules.{instance_without_amount, volume_lacks_amount, counts_broken, part_exceeds, networks_exceed, limits_broken}
+use Rattle.row_machine.specs.machine.LimitRules.{instance_without_amount, volume_lacks_amount, counts_broken, part_exceeds, networks_exceed, pools_exceed, limits_broken}
 use Rattle.row_machine.specs.machine.NameRules.{project_missing, what_is_missing, name_broken}
 use Rattle.row_machine.specs.machine.Rules.{names_broken}
 use Rattle.row_machine.specs.shown.Notices.{since}
@@ -79,11 +83,12 @@ unfolding
     expanded_device setting_lines restrictions_forbids_device_lines device_rule setting_rule broken_settings
     missing_setting broken_devices first_forbidden snapshots_forbidden policy_of word_named is_true first_over
     networks_over first_without_amount volume_without_amount cpu_in memory_in disk_in instance_amounts volume_amounts count_in
-    size_in limits_of count_at number_at moment_at code_at text_at items_at list_at filled_at next_at next_filled_at
+    size_in limits_of pool_limit limited_pools root_pool pool_without_size volume_pool_without_size root_part sized_part
+    count_at number_at moment_at code_at text_at items_at list_at filled_at next_at next_filled_at
     setting_at device_at shape_at project_in profile_in network_in pool_in volume_in instance_in snapshot_in two_names_in
     three_names_in read_project read_profile read_network read_pool read_volume read_instance read_snapshot row_at text_bytes
-    number_bytes list_bytes accepted judged_instances judged_volumes amounts_of_instance share_of expanded_of busy_with
-    holder_of first_user_of home_of instance_without_amount volume_lacks_amount counts_broken part_exceeds networks_exceed
+    number_bytes list_bytes accepted judged_instances judged_volumes amounts_of_instance part_of_instance share_of part_of_share expanded_of busy_with
+    holder_of first_user_of home_of instance_without_amount volume_lacks_amount counts_broken part_exceeds networks_exceed pools_exceed
     limits_broken project_missing what_is_missing name_broken names_broken since rows_break opening_of plan_of
     forbids_profile forbids_instance policy_broken snapshot_blocked records_of broken root_missing profile_missing
     devices_miss instance_settings profile_settings row_settings settings_broken instance_busy wrong_state
@@ -115,11 +120,12 @@ unfolding
     expanded_device setting_lines restrictions_forbids_device_lines device_rule setting_rule broken_settings
     missing_setting broken_devices first_forbidden snapshots_forbidden policy_of word_named is_true first_over
     networks_over first_without_amount volume_without_amount cpu_in memory_in disk_in instance_amounts volume_amounts count_in
-    size_in limits_of count_at number_at moment_at code_at text_at items_at list_at filled_at next_at next_filled_at
+    size_in limits_of pool_limit limited_pools root_pool pool_without_size volume_pool_without_size root_part sized_part
+    count_at number_at moment_at code_at text_at items_at list_at filled_at next_at next_filled_at
     setting_at device_at shape_at project_in profile_in network_in pool_in volume_in instance_in snapshot_in two_names_in
     three_names_in read_project read_profile read_network read_pool read_volume read_instance read_snapshot row_at text_bytes
-    number_bytes list_bytes accepted judged_instances judged_volumes amounts_of_instance share_of expanded_of busy_with
-    holder_of first_user_of home_of instance_without_amount volume_lacks_amount counts_broken part_exceeds networks_exceed
+    number_bytes list_bytes accepted judged_instances judged_volumes amounts_of_instance part_of_instance share_of part_of_share expanded_of busy_with
+    holder_of first_user_of home_of instance_without_amount volume_lacks_amount counts_broken part_exceeds networks_exceed pools_exceed
     limits_broken project_missing what_is_missing name_broken names_broken since rows_break opening_of plan_of
     forbids_profile forbids_instance policy_broken snapshot_blocked records_of broken root_missing profile_missing
     devices_miss instance_settings profile_settings row_settings settings_broken instance_busy wrong_state
@@ -145,11 +151,12 @@ unfolding
     expanded_device setting_lines restrictions_forbids_device_lines device_rule setting_rule broken_settings
     missing_setting broken_devices first_forbidden snapshots_forbidden policy_of word_named is_true first_over
     networks_over first_without_amount volume_without_amount cpu_in memory_in disk_in instance_amounts volume_amounts count_in
-    size_in limits_of count_at number_at moment_at code_at text_at items_at list_at filled_at next_at next_filled_at
+    size_in limits_of pool_limit limited_pools root_pool pool_without_size volume_pool_without_size root_part sized_part
+    count_at number_at moment_at code_at text_at items_at list_at filled_at next_at next_filled_at
     setting_at device_at shape_at project_in profile_in network_in pool_in volume_in instance_in snapshot_in two_names_in
     three_names_in read_project read_profile read_network read_pool read_volume read_instance read_snapshot row_at text_bytes
-    number_bytes list_bytes accepted judged_instances judged_volumes amounts_of_instance share_of expanded_of busy_with
-    holder_of first_user_of home_of instance_without_amount volume_lacks_amount counts_broken part_exceeds networks_exceed
+    number_bytes list_bytes accepted judged_instances judged_volumes amounts_of_instance part_of_instance share_of part_of_share expanded_of busy_with
+    holder_of first_user_of home_of instance_without_amount volume_lacks_amount counts_broken part_exceeds networks_exceed pools_exceed
     limits_broken project_missing what_is_missing name_broken names_broken since rows_break opening_of plan_of
     forbids_profile forbids_instance policy_broken snapshot_blocked records_of broken root_missing profile_missing
     devices_miss instance_settings profile_settings row_settings settings_broken instance_busy wrong_state
@@ -167,11 +174,12 @@ unfolding
     expanded_device setting_lines restrictions_forbids_device_lines device_rule setting_rule broken_settings
     missing_setting broken_devices first_forbidden snapshots_forbidden policy_of word_named is_true first_over
     networks_over first_without_amount volume_without_amount cpu_in memory_in disk_in instance_amounts volume_amounts count_in
-    size_in limits_of count_at number_at moment_at code_at text_at items_at list_at filled_at next_at next_filled_at
+    size_in limits_of pool_limit limited_pools root_pool pool_without_size volume_pool_without_size root_part sized_part
+    count_at number_at moment_at code_at text_at items_at list_at filled_at next_at next_filled_at
     setting_at device_at shape_at project_in profile_in network_in pool_in volume_in instance_in snapshot_in two_names_in
     three_names_in read_project read_profile read_network read_pool read_volume read_instance read_snapshot row_at text_bytes
-    number_bytes list_bytes accepted judged_instances judged_volumes amounts_of_instance share_of expanded_of busy_with
-    holder_of first_user_of home_of instance_without_amount volume_lacks_amount counts_broken part_exceeds networks_exceed
+    number_bytes list_bytes accepted judged_instances judged_volumes amounts_of_instance part_of_instance share_of part_of_share expanded_of busy_with
+    holder_of first_user_of home_of instance_without_amount volume_lacks_amount counts_broken part_exceeds networks_exceed pools_exceed
     limits_broken project_missing what_is_missing name_broken names_broken since rows_break opening_of plan_of
     forbids_profile forbids_instance policy_broken snapshot_blocked records_of broken root_missing profile_missing
     devices_miss instance_settings profile_settings row_settings settings_broken instance_busy wrong_state
@@ -189,11 +197,12 @@ unfolding
     expanded_device setting_lines restrictions_forbids_device_lines device_rule setting_rule broken_settings
     missing_setting broken_devices first_forbidden snapshots_forbidden policy_of word_named is_true first_over
     networks_over first_without_amount volume_without_amount cpu_in memory_in disk_in instance_amounts volume_amounts count_in
-    size_in limits_of count_at number_at moment_at code_at text_at items_at list_at filled_at next_at next_filled_at
+    size_in limits_of pool_limit limited_pools root_pool pool_without_size volume_pool_without_size root_part sized_part
+    count_at number_at moment_at code_at text_at items_at list_at filled_at next_at next_filled_at
     setting_at device_at shape_at project_in profile_in network_in pool_in volume_in instance_in snapshot_in two_names_in
     three_names_in read_project read_profile read_network read_pool read_volume read_instance read_snapshot row_at text_bytes
-    number_bytes list_bytes accepted judged_instances judged_volumes amounts_of_instance share_of expanded_of busy_with
-    holder_of first_user_of home_of instance_without_amount volume_lacks_amount counts_broken part_exceeds networks_exceed
+    number_bytes list_bytes accepted judged_instances judged_volumes amounts_of_instance part_of_instance share_of part_of_share expanded_of busy_with
+    holder_of first_user_of home_of instance_without_amount volume_lacks_amount counts_broken part_exceeds networks_exceed pools_exceed
     limits_broken project_missing what_is_missing name_broken names_broken since rows_break opening_of plan_of
     forbids_profile forbids_instance policy_broken snapshot_blocked records_of broken root_missing profile_missing
     devices_miss instance_settings profile_settings row_settings settings_broken instance_busy wrong_state
@@ -211,18 +220,19 @@ unfolding
     expanded_device setting_lines restrictions_forbids_device_lines device_rule setting_rule broken_settings
     missing_setting broken_devices first_forbidden snapshots_forbidden policy_of word_named is_true first_over
     networks_over first_without_amount volume_without_amount cpu_in memory_in disk_in instance_amounts volume_amounts count_in
-    size_in limits_of count_at number_at moment_at code_at text_at items_at list_at filled_at next_at next_filled_at
+    size_in limits_of pool_limit limited_pools root_pool pool_without_size volume_pool_without_size root_part sized_part
+    count_at number_at moment_at code_at text_at items_at list_at filled_at next_at next_filled_at
     setting_at device_at shape_at project_in profile_in network_in pool_in volume_in instance_in snapshot_in two_names_in
     three_names_in read_project read_profile read_network read_pool read_volume read_instance read_snapshot row_at text_bytes
-    number_bytes list_bytes accepted judged_instances judged_volumes amounts_of_instance share_of expanded_of busy_with
-    holder_of first_user_of home_of instance_without_amount volume_lacks_amount counts_broken part_exceeds networks_exceed
+    number_bytes list_bytes accepted judged_instances judged_volumes amounts_of_instance part_of_instance share_of part_of_share expanded_of busy_with
+    holder_of first_user_of home_of instance_without_amount volume_lacks_amount counts_broken part_exceeds networks_exceed pools_exceed
     limits_broken project_missing what_is_missing name_broken names_broken since rows_break opening_of plan_of
     forbids_profile forbids_instance policy_broken snapshot_blocked records_of broken root_missing profile_missing
     devices_miss instance_settings profile_settings row_settings settings_broken instance_busy wrong_state
     object_protected object_used project_occupied profile_held standing_broken step cancel_broken entry_broken
     tables_broken loads usage_of networks_of used_by usage_view read entered succeeded failed cancelled
 limits = record {
-  limits = one _ (record { parts = within; networks = tt; instances = Each-none; volumes = Each-none });
+  limits = one _ (record { parts = within; networks = tt; pools = λ pool. tt; instances = Each-none; volumes = Each-none });
   policy = one _ (record { profiles = one _ (λ same number. refl); instances = Each-none });
 } where
   within : (k : Part) → IfSome (limit_on k (limits_of default_project.config)) (λ limit. used begin default_name k ≤ limit)
@@ -244,11 +254,12 @@ unfolding
     expanded_device setting_lines restrictions_forbids_device_lines device_rule setting_rule broken_settings
     missing_setting broken_devices first_forbidden snapshots_forbidden policy_of word_named is_true first_over
     networks_over first_without_amount volume_without_amount cpu_in memory_in disk_in instance_amounts volume_amounts count_in
-    size_in limits_of count_at number_at moment_at code_at text_at items_at list_at filled_at next_at next_filled_at
+    size_in limits_of pool_limit limited_pools root_pool pool_without_size volume_pool_without_size root_part sized_part
+    count_at number_at moment_at code_at text_at items_at list_at filled_at next_at next_filled_at
     setting_at device_at shape_at project_in profile_in network_in pool_in volume_in instance_in snapshot_in two_names_in
     three_names_in read_project read_profile read_network read_pool read_volume read_instance read_snapshot row_at text_bytes
-    number_bytes list_bytes accepted judged_instances judged_volumes amounts_of_instance share_of expanded_of busy_with
-    holder_of first_user_of home_of instance_without_amount volume_lacks_amount counts_broken part_exceeds networks_exceed
+    number_bytes list_bytes accepted judged_instances judged_volumes amounts_of_instance part_of_instance share_of part_of_share expanded_of busy_with
+    holder_of first_user_of home_of instance_without_amount volume_lacks_amount counts_broken part_exceeds networks_exceed pools_exceed
     limits_broken project_missing what_is_missing name_broken names_broken since rows_break opening_of plan_of
     forbids_profile forbids_instance policy_broken snapshot_blocked records_of broken root_missing profile_missing
     devices_miss instance_settings profile_settings row_settings settings_broken instance_busy wrong_state
@@ -277,11 +288,14 @@ new-whole = record {
   books = balanced;
   sizes = sizes;
 } where
+  by_part : (k : Part) → part k begin.books.granted ≡ part k begin.books.converted + part k begin.books.returned + sum_by (λ (h : Hold). part k h.share) begin.held
+  by_part Instances = refl
+  by_part Containers = refl
+  by_part Machines = refl
+  by_part Cpu = refl
+  by_part Memory = refl
+  by_part Processes = refl
+  by_part Disk = refl
+
   balanced : AreBalanced begin
-  balanced Instances = refl
-  balanced Containers = refl
-  balanced Machines = refl
-  balanced Cpu = refl
-  balanced Memory = refl
-  balanced Processes = refl
-  balanced Disk = refl
+  balanced = record { parts = by_part; pools = refl }

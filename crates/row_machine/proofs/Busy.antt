@@ -32,8 +32,10 @@ use Rattle.size_values.specs.Amounts.{nothing, part}
 use Rattle.size_values.specs.declared.amounts.Amounts.{Amounts}
 use Rattle.size_values.specs.declared.moment.TheConstants.{MOMENT_LIMIT}
 use Rattle.reservations.specs.declared.books.Hold.{Hold}
+use Rattle.size_values.specs.PoolParts.{no_part}
+use Rattle.size_values.specs.declared.pool_part.PoolPart.{PoolPart}
 use Rattle.row_machine.specs.machine.Rows.{pool_named}
-use Rattle.std.specs.Prelude.{map}
+use Rattle.std.specs.Prelude.{codes, map}
 use Rattle.row_machine.specs.facts.Whole.{instance_there, held_by}
 use Rattle.size_values.specs.Address.{address_of, cidr_of}
 use Rattle.size_values.specs.Amounts.{plus_of, minus_of, excess_of, fits_in}
@@ -59,14 +61,15 @@ use Rattle.project_limits.specs.Admission.{first_over, networks_over}
 use Rattle.project_limits.specs.Countable.{first_without_amount, volume_without_amount}
 use Rattle.project_limits.specs.Instance.{cpu_in, memory_in, disk_in, instance_amounts, volume_amounts}
 use Rattle.project_limits.specs.Limits.{count_in, size_in, limits_of}
+use Rattle.project_limits.specs.Pools.{pool_limit, limited_pools, root_pool, pool_without_size, volume_pool_without_size, root_part, sized_part}
 use Rattle.row_codec.specs.Reading.{count_at, number_at, moment_at, code_at, text_at, items_at, list_at, filled_at, next_at, next_filled_at, setting_at, device_at, shape_at, project_in, profile_in, network_in, pool_in, volume_in, instance_in, snapshot_in, two_names_in, three_names_in, read_project, read_profile, read_network, read_pool, read_volume, read_instance, read_snapshot, row_at}
 use Rattle.row_codec.specs.Spelling.{text_bytes, number_bytes, list_bytes}
 use Rattle.row_machine.specs.machine.Accept.{accepted}
-use Rattle.row_machine.specs.machine.Claims.{judged_instances, judged_volumes, amounts_of_instance, share_of}
+use Rattle.row_machine.specs.machine.Claims.{judged_instances, judged_volumes, amounts_of_instance, part_of_instance, share_of, part_of_share}
 use Rattle.row_machine.specs.machine.Expansions.{expanded_of}
 use Rattle.row_machine.specs.machine.Holders.{busy_with, holder_of, first_user_of}
 use Rattle.row_machine.specs.machine.Homes.{home_of}
-use Rattle.row_machine.specs.machine.LimitRules.{instance_without_amount, volume_lacks_amount, counts_broken, part_exceeds, networks_exceed, limits_broken}
+use Rattle.row_machine.specs.machine.LimitRules.{instance_without_amount, volume_lacks_amount, counts_broken, part_exceeds, networks_exceed, pools_exceed, limits_broken}
 use Rattle.row_machine.specs.machine.NameRules.{project_missing, what_is_missing, name_broken}
 use Rattle.row_machine.specs.machine.Rules.{names_broken}
 use Rattle.row_machine.specs.shown.Notices.{since}
@@ -173,11 +176,12 @@ unfolding
     expanded_device setting_lines restrictions_forbids_device_lines device_rule setting_rule broken_settings
     missing_setting broken_devices first_forbidden snapshots_forbidden policy_of word_named is_true first_over
     networks_over first_without_amount volume_without_amount cpu_in memory_in disk_in instance_amounts volume_amounts count_in
-    size_in limits_of count_at number_at moment_at code_at text_at items_at list_at filled_at next_at next_filled_at
+    size_in limits_of pool_limit limited_pools root_pool pool_without_size volume_pool_without_size root_part sized_part
+    count_at number_at moment_at code_at text_at items_at list_at filled_at next_at next_filled_at
     setting_at device_at shape_at project_in profile_in network_in pool_in volume_in instance_in snapshot_in two_names_in
     three_names_in read_project read_profile read_network read_pool read_volume read_instance read_snapshot row_at text_bytes
-    number_bytes list_bytes accepted judged_instances judged_volumes amounts_of_instance share_of expanded_of busy_with
-    holder_of first_user_of home_of instance_without_amount volume_lacks_amount counts_broken part_exceeds networks_exceed
+    number_bytes list_bytes accepted judged_instances judged_volumes amounts_of_instance part_of_instance share_of part_of_share expanded_of busy_with
+    holder_of first_user_of home_of instance_without_amount volume_lacks_amount counts_broken part_exceeds networks_exceed pools_exceed
     limits_broken project_missing what_is_missing name_broken names_broken since rows_break opening_of plan_of
     forbids_profile forbids_instance policy_broken snapshot_blocked records_of broken root_missing profile_missing
     devices_miss instance_settings profile_settings row_settings settings_broken instance_busy wrong_state
@@ -218,11 +222,12 @@ unfolding
     expanded_device setting_lines restrictions_forbids_device_lines device_rule setting_rule broken_settings
     missing_setting broken_devices first_forbidden snapshots_forbidden policy_of word_named is_true first_over
     networks_over first_without_amount volume_without_amount cpu_in memory_in disk_in instance_amounts volume_amounts count_in
-    size_in limits_of count_at number_at moment_at code_at text_at items_at list_at filled_at next_at next_filled_at
+    size_in limits_of pool_limit limited_pools root_pool pool_without_size volume_pool_without_size root_part sized_part
+    count_at number_at moment_at code_at text_at items_at list_at filled_at next_at next_filled_at
     setting_at device_at shape_at project_in profile_in network_in pool_in volume_in instance_in snapshot_in two_names_in
     three_names_in read_project read_profile read_network read_pool read_volume read_instance read_snapshot row_at text_bytes
-    number_bytes list_bytes accepted judged_instances judged_volumes amounts_of_instance share_of expanded_of busy_with
-    holder_of first_user_of home_of instance_without_amount volume_lacks_amount counts_broken part_exceeds networks_exceed
+    number_bytes list_bytes accepted judged_instances judged_volumes amounts_of_instance part_of_instance share_of part_of_share expanded_of busy_with
+    holder_of first_user_of home_of instance_without_amount volume_lacks_amount counts_broken part_exceeds networks_exceed pools_exceed
     limits_broken project_missing what_is_missing name_broken names_broken since rows_break opening_of plan_of
     forbids_profile forbids_instance policy_broken snapshot_blocked records_of broken root_missing profile_missing
     devices_miss instance_settings profile_settings row_settings settings_broken instance_busy wrong_state
@@ -280,11 +285,12 @@ unfolding
     expanded_device setting_lines restrictions_forbids_device_lines device_rule setting_rule broken_settings
     missing_setting broken_devices first_forbidden snapshots_forbidden policy_of word_named is_true first_over
     networks_over first_without_amount volume_without_amount cpu_in memory_in disk_in instance_amounts volume_amounts count_in
-    size_in limits_of count_at number_at moment_at code_at text_at items_at list_at filled_at next_at next_filled_at
+    size_in limits_of pool_limit limited_pools root_pool pool_without_size volume_pool_without_size root_part sized_part
+    count_at number_at moment_at code_at text_at items_at list_at filled_at next_at next_filled_at
     setting_at device_at shape_at project_in profile_in network_in pool_in volume_in instance_in snapshot_in two_names_in
     three_names_in read_project read_profile read_network read_pool read_volume read_instance read_snapshot row_at text_bytes
-    number_bytes list_bytes accepted judged_instances judged_volumes amounts_of_instance share_of expanded_of busy_with
-    holder_of first_user_of home_of instance_without_amount volume_lacks_amount counts_broken part_exceeds networks_exceed
+    number_bytes list_bytes accepted judged_instances judged_volumes amounts_of_instance part_of_instance share_of part_of_share expanded_of busy_with
+    holder_of first_user_of home_of instance_without_amount volume_lacks_amount counts_broken part_exceeds networks_exceed pools_exceed
     limits_broken project_missing what_is_missing name_broken names_broken since rows_break opening_of plan_of
     forbids_profile forbids_instance policy_broken snapshot_blocked records_of broken root_missing profile_missing
     devices_miss instance_settings profile_settings row_settings settings_broken instance_busy wrong_state
@@ -302,11 +308,12 @@ unfolding
     expanded_device setting_lines restrictions_forbids_device_lines device_rule setting_rule broken_settings
     missing_setting broken_devices first_forbidden snapshots_forbidden policy_of word_named is_true first_over
     networks_over first_without_amount volume_without_amount cpu_in memory_in disk_in instance_amounts volume_amounts count_in
-    size_in limits_of count_at number_at moment_at code_at text_at items_at list_at filled_at next_at next_filled_at
+    size_in limits_of pool_limit limited_pools root_pool pool_without_size volume_pool_without_size root_part sized_part
+    count_at number_at moment_at code_at text_at items_at list_at filled_at next_at next_filled_at
     setting_at device_at shape_at project_in profile_in network_in pool_in volume_in instance_in snapshot_in two_names_in
     three_names_in read_project read_profile read_network read_pool read_volume read_instance read_snapshot row_at text_bytes
-    number_bytes list_bytes accepted judged_instances judged_volumes amounts_of_instance share_of expanded_of busy_with
-    holder_of first_user_of home_of instance_without_amount volume_lacks_amount counts_broken part_exceeds networks_exceed
+    number_bytes list_bytes accepted judged_instances judged_volumes amounts_of_instance part_of_instance share_of part_of_share expanded_of busy_with
+    holder_of first_user_of home_of instance_without_amount volume_lacks_amount counts_broken part_exceeds networks_exceed pools_exceed
     limits_broken project_missing what_is_missing name_broken names_broken since rows_break opening_of plan_of
     forbids_profile forbids_instance policy_broken snapshot_blocked records_of broken root_missing profile_missing
     devices_miss instance_settings profile_settings row_settings settings_broken instance_busy wrong_state
@@ -328,11 +335,12 @@ unfolding
     expanded_device setting_lines restrictions_forbids_device_lines device_rule setting_rule broken_settings
     missing_setting broken_devices first_forbidden snapshots_forbidden policy_of word_named is_true first_over
     networks_over first_without_amount volume_without_amount cpu_in memory_in disk_in instance_amounts volume_amounts count_in
-    size_in limits_of count_at number_at moment_at code_at text_at items_at list_at filled_at next_at next_filled_at
+    size_in limits_of pool_limit limited_pools root_pool pool_without_size volume_pool_without_size root_part sized_part
+    count_at number_at moment_at code_at text_at items_at list_at filled_at next_at next_filled_at
     setting_at device_at shape_at project_in profile_in network_in pool_in volume_in instance_in snapshot_in two_names_in
     three_names_in read_project read_profile read_network read_pool read_volume read_instance read_snapshot row_at text_bytes
-    number_bytes list_bytes accepted judged_instances judged_volumes amounts_of_instance share_of expanded_of busy_with
-    holder_of first_user_of home_of instance_without_amount volume_lacks_amount counts_broken part_exceeds networks_exceed
+    number_bytes list_bytes accepted judged_instances judged_volumes amounts_of_instance part_of_instance share_of part_of_share expanded_of busy_with
+    holder_of first_user_of home_of instance_without_amount volume_lacks_amount counts_broken part_exceeds networks_exceed pools_exceed
     limits_broken project_missing what_is_missing name_broken names_broken since rows_break opening_of plan_of
     forbids_profile forbids_instance policy_broken snapshot_blocked records_of broken root_missing profile_missing
     devices_miss instance_settings profile_settings row_settings settings_broken instance_busy wrong_state
@@ -367,11 +375,12 @@ unfolding
     expanded_device setting_lines restrictions_forbids_device_lines device_rule setting_rule broken_settings
     missing_setting broken_devices first_forbidden snapshots_forbidden policy_of word_named is_true first_over
     networks_over first_without_amount volume_without_amount cpu_in memory_in disk_in instance_amounts volume_amounts count_in
-    size_in limits_of count_at number_at moment_at code_at text_at items_at list_at filled_at next_at next_filled_at
+    size_in limits_of pool_limit limited_pools root_pool pool_without_size volume_pool_without_size root_part sized_part
+    count_at number_at moment_at code_at text_at items_at list_at filled_at next_at next_filled_at
     setting_at device_at shape_at project_in profile_in network_in pool_in volume_in instance_in snapshot_in two_names_in
     three_names_in read_project read_profile read_network read_pool read_volume read_instance read_snapshot row_at text_bytes
-    number_bytes list_bytes accepted judged_instances judged_volumes amounts_of_instance share_of expanded_of busy_with
-    holder_of first_user_of home_of instance_without_amount volume_lacks_amount counts_broken part_exceeds networks_exceed
+    number_bytes list_bytes accepted judged_instances judged_volumes amounts_of_instance part_of_instance share_of part_of_share expanded_of busy_with
+    holder_of first_user_of home_of instance_without_amount volume_lacks_amount counts_broken part_exceeds networks_exceed pools_exceed
     limits_broken project_missing what_is_missing name_broken names_broken since rows_break opening_of plan_of
     forbids_profile forbids_instance policy_broken snapshot_blocked records_of broken root_missing profile_missing
     devices_miss instance_settings profile_settings row_settings settings_broken instance_busy wrong_state
@@ -417,11 +426,12 @@ unfolding
     expanded_device setting_lines restrictions_forbids_device_lines device_rule setting_rule broken_settings
     missing_setting broken_devices first_forbidden snapshots_forbidden policy_of word_named is_true first_over
     networks_over first_without_amount volume_without_amount cpu_in memory_in disk_in instance_amounts volume_amounts count_in
-    size_in limits_of count_at number_at moment_at code_at text_at items_at list_at filled_at next_at next_filled_at
+    size_in limits_of pool_limit limited_pools root_pool pool_without_size volume_pool_without_size root_part sized_part
+    count_at number_at moment_at code_at text_at items_at list_at filled_at next_at next_filled_at
     setting_at device_at shape_at project_in profile_in network_in pool_in volume_in instance_in snapshot_in two_names_in
     three_names_in read_project read_profile read_network read_pool read_volume read_instance read_snapshot row_at text_bytes
-    number_bytes list_bytes accepted judged_instances judged_volumes amounts_of_instance share_of expanded_of busy_with
-    holder_of first_user_of home_of instance_without_amount volume_lacks_amount counts_broken part_exceeds networks_exceed
+    number_bytes list_bytes accepted judged_instances judged_volumes amounts_of_instance part_of_instance share_of part_of_share expanded_of busy_with
+    holder_of first_user_of home_of instance_without_amount volume_lacks_amount counts_broken part_exceeds networks_exceed pools_exceed
     limits_broken project_missing what_is_missing name_broken names_broken since rows_break opening_of plan_of
     forbids_profile forbids_instance policy_broken snapshot_blocked records_of broken root_missing profile_missing
     devices_miss instance_settings profile_settings row_settings settings_broken instance_busy wrong_state
@@ -444,11 +454,12 @@ unfolding
     expanded_device setting_lines restrictions_forbids_device_lines device_rule setting_rule broken_settings
     missing_setting broken_devices first_forbidden snapshots_forbidden policy_of word_named is_true first_over
     networks_over first_without_amount volume_without_amount cpu_in memory_in disk_in instance_amounts volume_amounts count_in
-    size_in limits_of count_at number_at moment_at code_at text_at items_at list_at filled_at next_at next_filled_at
+    size_in limits_of pool_limit limited_pools root_pool pool_without_size volume_pool_without_size root_part sized_part
+    count_at number_at moment_at code_at text_at items_at list_at filled_at next_at next_filled_at
     setting_at device_at shape_at project_in profile_in network_in pool_in volume_in instance_in snapshot_in two_names_in
     three_names_in read_project read_profile read_network read_pool read_volume read_instance read_snapshot row_at text_bytes
-    number_bytes list_bytes accepted judged_instances judged_volumes amounts_of_instance share_of expanded_of busy_with
-    holder_of first_user_of home_of instance_without_amount volume_lacks_amount counts_broken part_exceeds networks_exceed
+    number_bytes list_bytes accepted judged_instances judged_volumes amounts_of_instance part_of_instance share_of part_of_share expanded_of busy_with
+    holder_of first_user_of home_of instance_without_amount volume_lacks_amount counts_broken part_exceeds networks_exceed pools_exceed
     limits_broken project_missing what_is_missing name_broken names_broken since rows_break opening_of plan_of
     forbids_profile forbids_instance policy_broken snapshot_blocked records_of broken root_missing profile_missing
     devices_miss instance_settings profile_settings row_settings settings_broken instance_busy wrong_state
@@ -471,11 +482,12 @@ unfolding
     expanded_device setting_lines restrictions_forbids_device_lines device_rule setting_rule broken_settings
     missing_setting broken_devices first_forbidden snapshots_forbidden policy_of word_named is_true first_over
     networks_over first_without_amount volume_without_amount cpu_in memory_in disk_in instance_amounts volume_amounts count_in
-    size_in limits_of count_at number_at moment_at code_at text_at items_at list_at filled_at next_at next_filled_at
+    size_in limits_of pool_limit limited_pools root_pool pool_without_size volume_pool_without_size root_part sized_part
+    count_at number_at moment_at code_at text_at items_at list_at filled_at next_at next_filled_at
     setting_at device_at shape_at project_in profile_in network_in pool_in volume_in instance_in snapshot_in two_names_in
     three_names_in read_project read_profile read_network read_pool read_volume read_instance read_snapshot row_at text_bytes
-    number_bytes list_bytes accepted judged_instances judged_volumes amounts_of_instance share_of expanded_of busy_with
-    holder_of first_user_of home_of instance_without_amount volume_lacks_amount counts_broken part_exceeds networks_exceed
+    number_bytes list_bytes accepted judged_instances judged_volumes amounts_of_instance part_of_instance share_of part_of_share expanded_of busy_with
+    holder_of first_user_of home_of instance_without_amount volume_lacks_amount counts_broken part_exceeds networks_exceed pools_exceed
     limits_broken project_missing what_is_missing name_broken names_broken since rows_break opening_of plan_of
     forbids_profile forbids_instance policy_broken snapshot_blocked records_of broken root_missing profile_missing
     devices_miss instance_settings profile_settings row_settings settings_broken instance_busy wrong_state
@@ -485,6 +497,7 @@ limits = record {
   limits = Each-cons _ (record {
     parts = within;
     networks = tt;
+    pools = λ pool. tt;
     instances = pair _ (λ same. refl) (λ same. refl) (pair _ (λ same. refl) (λ same. refl) Each-none);
     volumes = Each-none;
   }) Each-none;
@@ -512,17 +525,18 @@ unfolding
     expanded_device setting_lines restrictions_forbids_device_lines device_rule setting_rule broken_settings
     missing_setting broken_devices first_forbidden snapshots_forbidden policy_of word_named is_true first_over
     networks_over first_without_amount volume_without_amount cpu_in memory_in disk_in instance_amounts volume_amounts count_in
-    size_in limits_of count_at number_at moment_at code_at text_at items_at list_at filled_at next_at next_filled_at
+    size_in limits_of pool_limit limited_pools root_pool pool_without_size volume_pool_without_size root_part sized_part
+    count_at number_at moment_at code_at text_at items_at list_at filled_at next_at next_filled_at
     setting_at device_at shape_at project_in profile_in network_in pool_in volume_in instance_in snapshot_in two_names_in
     three_names_in read_project read_profile read_network read_pool read_volume read_instance read_snapshot row_at text_bytes
-    number_bytes list_bytes accepted judged_instances judged_volumes amounts_of_instance share_of expanded_of busy_with
-    holder_of first_user_of home_of instance_without_amount volume_lacks_amount counts_broken part_exceeds networks_exceed
+    number_bytes list_bytes accepted judged_instances judged_volumes amounts_of_instance part_of_instance share_of part_of_share expanded_of busy_with
+    holder_of first_user_of home_of instance_without_amount volume_lacks_amount counts_broken part_exceeds networks_exceed pools_exceed
     limits_broken project_missing what_is_missing name_broken names_broken since rows_break opening_of plan_of
     forbids_profile forbids_instance policy_broken snapshot_blocked records_of broken root_missing profile_missing
     devices_miss instance_settings profile_settings row_settings settings_broken instance_busy wrong_state
     object_protected object_used project_occupied profile_held standing_broken step cancel_broken entry_broken
     tables_broken loads usage_of networks_of used_by usage_view read entered succeeded failed cancelled
-balanced = by_part where
+balanced = record { parts = by_part; pools = refl } where
   by_part : (k : Part) → part k busy.books.granted ≡ part k busy.books.converted + part k busy.books.returned + sum_by (λ (h : Hold). part k h.share) busy.held
   by_part Instances = refl
   by_part Containers = refl
@@ -542,11 +556,12 @@ unfolding
     expanded_device setting_lines restrictions_forbids_device_lines device_rule setting_rule broken_settings
     missing_setting broken_devices first_forbidden snapshots_forbidden policy_of word_named is_true first_over
     networks_over first_without_amount volume_without_amount cpu_in memory_in disk_in instance_amounts volume_amounts count_in
-    size_in limits_of count_at number_at moment_at code_at text_at items_at list_at filled_at next_at next_filled_at
+    size_in limits_of pool_limit limited_pools root_pool pool_without_size volume_pool_without_size root_part sized_part
+    count_at number_at moment_at code_at text_at items_at list_at filled_at next_at next_filled_at
     setting_at device_at shape_at project_in profile_in network_in pool_in volume_in instance_in snapshot_in two_names_in
     three_names_in read_project read_profile read_network read_pool read_volume read_instance read_snapshot row_at text_bytes
-    number_bytes list_bytes accepted judged_instances judged_volumes amounts_of_instance share_of expanded_of busy_with
-    holder_of first_user_of home_of instance_without_amount volume_lacks_amount counts_broken part_exceeds networks_exceed
+    number_bytes list_bytes accepted judged_instances judged_volumes amounts_of_instance part_of_instance share_of part_of_share expanded_of busy_with
+    holder_of first_user_of home_of instance_without_amount volume_lacks_amount counts_broken part_exceeds networks_exceed pools_exceed
     limits_broken project_missing what_is_missing name_broken names_broken since rows_break opening_of plan_of
     forbids_profile forbids_instance policy_broken snapshot_blocked records_of broken root_missing profile_missing
     devices_miss instance_settings profile_settings row_settings settings_broken instance_busy wrong_state
@@ -557,11 +572,14 @@ shares = as-held ∙ sym as-stands where
   one : Amounts
   one = record { instances = 1; containers = 1; machines = 0; cpu = 0; memory = 0; processes = 0; disk = 1073741824 }
 
+  on_p0 : PoolPart
+  on_p0 = record { pool = codes "p0"; disk = 1073741824 }
+
   held-now : List Hold
   held-now =
-      record { op = 3; project = default_name; share = one }
-      ∷ record { op = 4; project = default_name; share = one }
-      ∷ record { op = 5; project = default_name; share = nothing }
+      record { op = 3; project = default_name; share = one; part = on_p0 }
+      ∷ record { op = 4; project = default_name; share = one; part = on_p0 }
+      ∷ record { op = 5; project = default_name; share = nothing; part = no_part }
       ∷ []
 
   as-held : busy.held ≡ held-now
@@ -580,11 +598,12 @@ unfolding
     expanded_device setting_lines restrictions_forbids_device_lines device_rule setting_rule broken_settings
     missing_setting broken_devices first_forbidden snapshots_forbidden policy_of word_named is_true first_over
     networks_over first_without_amount volume_without_amount cpu_in memory_in disk_in instance_amounts volume_amounts count_in
-    size_in limits_of count_at number_at moment_at code_at text_at items_at list_at filled_at next_at next_filled_at
+    size_in limits_of pool_limit limited_pools root_pool pool_without_size volume_pool_without_size root_part sized_part
+    count_at number_at moment_at code_at text_at items_at list_at filled_at next_at next_filled_at
     setting_at device_at shape_at project_in profile_in network_in pool_in volume_in instance_in snapshot_in two_names_in
     three_names_in read_project read_profile read_network read_pool read_volume read_instance read_snapshot row_at text_bytes
-    number_bytes list_bytes accepted judged_instances judged_volumes amounts_of_instance share_of expanded_of busy_with
-    holder_of first_user_of home_of instance_without_amount volume_lacks_amount counts_broken part_exceeds networks_exceed
+    number_bytes list_bytes accepted judged_instances judged_volumes amounts_of_instance part_of_instance share_of part_of_share expanded_of busy_with
+    holder_of first_user_of home_of instance_without_amount volume_lacks_amount counts_broken part_exceeds networks_exceed pools_exceed
     limits_broken project_missing what_is_missing name_broken names_broken since rows_break opening_of plan_of
     forbids_profile forbids_instance policy_broken snapshot_blocked records_of broken root_missing profile_missing
     devices_miss instance_settings profile_settings row_settings settings_broken instance_busy wrong_state
@@ -609,11 +628,12 @@ unfolding
     expanded_device setting_lines restrictions_forbids_device_lines device_rule setting_rule broken_settings
     missing_setting broken_devices first_forbidden snapshots_forbidden policy_of word_named is_true first_over
     networks_over first_without_amount volume_without_amount cpu_in memory_in disk_in instance_amounts volume_amounts count_in
-    size_in limits_of count_at number_at moment_at code_at text_at items_at list_at filled_at next_at next_filled_at
+    size_in limits_of pool_limit limited_pools root_pool pool_without_size volume_pool_without_size root_part sized_part
+    count_at number_at moment_at code_at text_at items_at list_at filled_at next_at next_filled_at
     setting_at device_at shape_at project_in profile_in network_in pool_in volume_in instance_in snapshot_in two_names_in
     three_names_in read_project read_profile read_network read_pool read_volume read_instance read_snapshot row_at text_bytes
-    number_bytes list_bytes accepted judged_instances judged_volumes amounts_of_instance share_of expanded_of busy_with
-    holder_of first_user_of home_of instance_without_amount volume_lacks_amount counts_broken part_exceeds networks_exceed
+    number_bytes list_bytes accepted judged_instances judged_volumes amounts_of_instance part_of_instance share_of part_of_share expanded_of busy_with
+    holder_of first_user_of home_of instance_without_amount volume_lacks_amount counts_broken part_exceeds networks_exceed pools_exceed
     limits_broken project_missing what_is_missing name_broken names_broken since rows_break opening_of plan_of
     forbids_profile forbids_instance policy_broken snapshot_blocked records_of broken root_missing profile_missing
     devices_miss instance_settings profile_settings row_settings settings_broken instance_busy wrong_state

@@ -24,14 +24,15 @@ use Rattle.project_limits.specs.Admission.{first_over, networks_over}
 use Rattle.project_limits.specs.Countable.{first_without_amount, volume_without_amount}
 use Rattle.project_limits.specs.Instance.{cpu_in, memory_in, disk_in, instance_amounts, volume_amounts}
 use Rattle.project_limits.specs.Limits.{count_in, size_in, limits_of}
+use Rattle.project_limits.specs.Pools.{pool_limit, limited_pools, root_pool, pool_without_size, volume_pool_without_size, root_part, sized_part}
 use Rattle.row_codec.specs.Reading.{count_at, number_at, moment_at, code_at, text_at, items_at, list_at, filled_at, next_at, next_filled_at, setting_at, device_at, shape_at, project_in, profile_in, network_in, pool_in, volume_in, instance_in, snapshot_in, two_names_in, three_names_in, read_project, read_profile, read_network, read_pool, read_volume, read_instance, read_snapshot, row_at}
 use Rattle.row_codec.specs.Spelling.{text_bytes, number_bytes, list_bytes}
 use Rattle.row_machine.specs.machine.Accept.{accepted}
-use Rattle.row_machine.specs.machine.Claims.{judged_instances, judged_volumes, amounts_of_instance, share_of}
+use Rattle.row_machine.specs.machine.Claims.{judged_instances, judged_volumes, amounts_of_instance, part_of_instance, share_of, part_of_share}
 use Rattle.row_machine.specs.machine.Expansions.{expanded_of}
 use Rattle.row_machine.specs.machine.Holders.{busy_with, holder_of, first_user_of}
 use Rattle.row_machine.specs.machine.Homes.{home_of}
-use Rattle.row_machine.specs.machine.LimitRules.{instance_without_amount, volume_lacks_amount, counts_broken, part_exceeds, networks_exceed, limits_broken}
+use Rattle.row_machine.specs.machine.LimitRules.{instance_without_amount, volume_lacks_amount, counts_broken, part_exceeds, networks_exceed, pools_exceed, limits_broken}
 use Rattle.row_machine.specs.machine.NameRules.{project_missing, what_is_missing, name_broken}
 use Rattle.row_machine.specs.machine.Rules.{names_broken}
 use Rattle.row_machine.specs.shown.Notices.{since}
@@ -61,11 +62,12 @@ unfolding
     expanded_device setting_lines restrictions_forbids_device_lines device_rule setting_rule broken_settings
     missing_setting broken_devices first_forbidden snapshots_forbidden policy_of word_named is_true first_over
     networks_over first_without_amount volume_without_amount cpu_in memory_in disk_in instance_amounts volume_amounts count_in
-    size_in limits_of count_at number_at moment_at code_at text_at items_at list_at filled_at next_at next_filled_at
+    size_in limits_of pool_limit limited_pools root_pool pool_without_size volume_pool_without_size root_part sized_part
+    count_at number_at moment_at code_at text_at items_at list_at filled_at next_at next_filled_at
     setting_at device_at shape_at project_in profile_in network_in pool_in volume_in instance_in snapshot_in two_names_in
     three_names_in read_project read_profile read_network read_pool read_volume read_instance read_snapshot row_at text_bytes
-    number_bytes list_bytes accepted judged_instances judged_volumes amounts_of_instance share_of expanded_of busy_with
-    holder_of first_user_of home_of instance_without_amount volume_lacks_amount counts_broken part_exceeds networks_exceed
+    number_bytes list_bytes accepted judged_instances judged_volumes amounts_of_instance part_of_instance share_of part_of_share expanded_of busy_with
+    holder_of first_user_of home_of instance_without_amount volume_lacks_amount counts_broken part_exceeds networks_exceed pools_exceed
     limits_broken project_missing what_is_missing name_broken names_broken since rows_break opening_of plan_of
     forbids_profile forbids_instance policy_broken snapshot_blocked records_of broken root_missing profile_missing
     devices_miss instance_settings profile_settings row_settings settings_broken instance_busy wrong_state

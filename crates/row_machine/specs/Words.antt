@@ -57,9 +57,11 @@ pub use Rattle.project_limits.specs.Admission.{limit_on, exceeded, parts, key_of
 pub use Rattle.project_limits.specs.Countable.{first_without_amount, volume_without_amount}
 pub use Rattle.project_limits.specs.Instance.{instance_amounts, volume_amounts}
 pub use Rattle.project_limits.specs.Limits.{limits_of}
+pub use Rattle.project_limits.specs.Pools.{root_part, limited_pools, pool_key, pool_limit, pool_without_size}
+pub use Rattle.project_limits.specs.Pools.{sized_part, volume_pool_without_size}
 pub use Rattle.project_limits.specs.declared.admission.LimitKey.{LimitKey}
 pub use Rattle.project_limits.specs.declared.admission.LimitKey.TheVariants.{Containers, Cpu, Disk, Instances, Machines}
-pub use Rattle.project_limits.specs.declared.admission.LimitKey.TheVariants.{Memory, Networks, Processes}
+pub use Rattle.project_limits.specs.declared.admission.LimitKey.TheVariants.{DiskOnPool, Memory, Networks, Processes}
 pub use Rattle.project_limits.specs.declared.admission.Over.{Over}
 pub use Rattle.project_limits.specs.declared.sums.SumKey.{SumKey}
 pub use Rattle.records.specs.Forms.{are_profiles}
@@ -105,6 +107,7 @@ pub use Rattle.row_machine.specs.declared.events.Answer.{Answer}
 pub use Rattle.row_machine.specs.declared.events.Event.{Event}
 pub use Rattle.size_values.specs.Amounts.{amount_above, excess_of, part, nothing as no_amounts}
 pub use Rattle.size_values.specs.Fault.{fault_number}
+pub use Rattle.size_values.specs.PoolParts.{no_part, on_pool, part_above}
 pub use Rattle.size_values.specs.Boolean.{boolean_of}
 pub use Rattle.size_values.specs.declared.amounts.Amounts.{Amounts}
 pub use Rattle.size_values.specs.declared.amounts.Part.{Part}
@@ -116,6 +119,7 @@ pub use Rattle.size_values.specs.declared.kinds.Kind.TheVariants.{Container, Mac
 pub use Rattle.size_values.specs.declared.kinds.ObjectKind.{ObjectKind}
 pub use Rattle.size_values.specs.declared.kinds.Power.{Power}
 pub use Rattle.size_values.specs.declared.kinds.Power.TheVariants.{Error, Frozen, Stopped}
+pub use Rattle.size_values.specs.declared.pool_part.PoolPart.{PoolPart}
 pub use Rattle.size_values.specs.declared.rise.Rise.{Rise}
 pub use Rattle.size_values.specs.declared.kinds.Action.TheVariants as action
 pub use Rattle.size_values.specs.declared.kinds.Deed.TheVariants as deed

@@ -1,5 +1,5 @@
 -- What only rows of projects with a home pass, it passes among the rows of those that may have this home.
-use Rattle.std.proofs.Common.{◌≡◌, ℕ, Bool, true, false, cond, Option, None, List, [], filter, refl, ap}
+use Rattle.std.proofs.Common.{◌≡◌, ℕ, Bool, true, false, cond, Option, None, List, filter, refl}
 use Rattle.std.specs.Str.{bytes_eq}
 use Rattle.plain_lists.specs.Firsts.{first_of}
 use Rattle.records.specs.declared.rows.Project.{Project}

@@ -10,7 +10,7 @@ use Rattle.operations.specs.declared.operation.Operation.{Operation}
 use Rattle.records.specs.declared.rows.Instance.{Instance}
 use Rattle.records.specs.declared.rows.Row.{Row}
 use Rattle.records.specs.declared.rows.Volume.{Volume}
-use Rattle.row_machine.specs.machine.Claims.{of_live, amounts_of_instance, project_of_row, share_of}
+use Rattle.row_machine.specs.machine.Claims.{of_live, amounts_of_instance, part_of_share, project_of_row, share_of}
 use Rattle.row_machine.specs.machine.Expansions.{expanded_of}
 use Rattle.row_machine.specs.machine.State.{State}
 use Rattle.row_machine.specs.machine.Task.{Task}
@@ -39,7 +39,7 @@ small-load project k load low = at (bytes_eq load.project project) (low k) where
 small-claim : (s : State) (project : List ℕ) (k : Part) (task : Task) → claim_part s project k task ≤ 2 ^ 63
 small-claim s project k task = at task.claim where
   load : Row → Load
-  load new = record { project = project_of_row new; amounts = share_of s task }
+  load new = record { project = project_of_row new; amounts = share_of s task; on = part_of_share s task }
 
   at : (claim : Option Row) → option_map_or (amount_for project k) (option_map load claim) 0 ≤ 2 ^ 63
   at None = omega arith

@@ -1,5 +1,5 @@
 -- What counts for limits stays below 2^63, since every size and count does.
-use Rattle.std.proofs.Common.{◌≡◌, ℕ, ◌-◌, ◌<◌, ◌^◌, Bool, true, false, cond, ◌||◌, nat_lt, nat_le, Option, Some, None, Result, Ok, Err, List, [], ◌∷◌, map, length, take, drop, codes, unwrap_or, refl, subst, arith}
+use Rattle.std.proofs.Common.{◌≡◌, ℕ, ◌-◌, ◌<◌, ◌≤◌, ◌^◌, Bool, true, false, cond, ◌||◌, nat_lt, nat_le, Option, Some, None, Result, Ok, Err, List, [], ◌∷◌, map, length, take, drop, codes, unwrap_or, refl, subst, arith}
 use Rattle.std.specs.Prelude.{nat_eq, ◌==◌, ◌*◌, is_none}
 use Rattle.std.specs.Option.{option_map, option_map_or, option_and_then}
 use Rattle.std.specs.List.{filter_map, cons_option, ends_with, before_first, list_all, list_any, slice_split}
@@ -8,8 +8,10 @@ use Rattle.std.specs.Char.{is_ascii_digit, is_ascii_alphabetic}
 use Rattle.std.specs.Str.{bytes_eq}
 use Rattle.std.specs.Str.Parse.{digits_value}
 use Rattle.std.proofs.lemmas.Bool.{leb-false}
+use Rattle.std.proofs.lemmas.Bool.Decides.{nat_tests}
 use Rattle.std.proofs.lemmas.List.Elements.{All-nil, All-cons, All-append}
-use Rattle.size_values.specs.Amounts.{part, nothing, excess_of}
+use Rattle.size_values.specs.Amounts.{part, nothing, amount_above, excess_of}
+use Rattle.size_values.specs.PoolParts.{no_part, on_pool, part_above}
 use Rattle.size_values.specs.Count.{count_of}
 use Rattle.size_values.specs.Cpu.{cpu_of, set_of, is_comma, is_dash, may_follow_in_set, is_whole_set, falls}
 use Rattle.size_values.specs.MemorySize.{memory_of}
@@ -29,12 +31,13 @@ use Rattle.config_lists.specs.Devices.{NamedDevices, root_of}
 use Rattle.config_lists.specs.Settings.{Settings, setting}
 use Rattle.project_limits.specs.Instance.{processors, bytes, cpu_in, memory_in, processes_in, disk_in, disk_at, instance_amounts, volume_amounts}
 use Rattle.project_limits.specs.Limits.{count_in, size_in}
+use Rattle.project_limits.specs.Pools.{root_part, root_pool, sized_part}
 use Rattle.records.specs.declared.rows.Instance.{Instance}
 use Rattle.records.specs.declared.rows.Row.{Row}
 use Rattle.records.specs.declared.rows.Row.TheVariants as row
 use Rattle.row_machine.specs.machine.Task.{Task}
 use Rattle.row_machine.specs.machine.State.{State}
-use Rattle.row_machine.specs.machine.Claims.{amounts_of_instance, amounts_of, project_of_row, replaced_instance, share_over, share_of}
+use Rattle.row_machine.specs.machine.Claims.{amounts_of_instance, amounts_of, part_of_instance, part_of_row, part_of_share, part_over, project_of_row, replaced_instance, share_over, share_of}
 use Rattle.row_machine.specs.machine.Expansions.{expanded_of}
 use Rattle.row_machine.specs.machine.Usage.{Load, loads, instance_load, volume_load, claim_load}
 use Rattle.row_readings.specs.Loads.{IsSmall, AreSmall}
@@ -193,7 +196,7 @@ low-nothing part_of.Memory = omega arith
 low-nothing part_of.Processes = omega arith
 low-nothing part_of.Disk = omega arith
 
-low-of_instance : (s : State) (i : Instance) → AreLow (amounts_of_instance s i)
+pub low-of_instance : (s : State) (i : Instance) → AreLow (amounts_of_instance s i)
 unfolding amounts_of_instance
 low-of_instance s i = low-instance i.kind (expanded_of s.projects s.profiles i).config (expanded_of s.projects s.profiles i).devices
 
@@ -220,32 +223,75 @@ low-share_of s task = at task.claim where
   at None = low-nothing
   at (Some new) = low-share_over s new (replaced_instance s task)
 
+-- ---- parts on pools
+
+low-root : (devices : NamedDevices) → (root_part devices).disk < 2 ^ 63
+unfolding root_part
+low-root devices = at (root_pool devices) where
+  at : (pool : Option (List ℕ)) → (option_map_or (λ (p : List ℕ). record { pool = p; disk = unwrap_or (disk_in devices) 0 }) pool no_part).disk < 2 ^ 63
+  at None = omega arith
+  at (Some pool) = low-disk_in devices
+
+pub low-root_of : (s : State) (i : Instance) → (part_of_instance s i).disk < 2 ^ 63
+unfolding part_of_instance
+low-root_of s i = low-root (expanded_of s.projects s.profiles i).devices
+
+pub low-sized : (pool : List ℕ) (config : Settings) → (sized_part pool config).disk < 2 ^ 63
+unfolding sized_part
+low-sized pool config = low-size_in config (codes "size")
+
+low-part_of_row : (s : State) (r : Row) → (part_of_row s r).disk < 2 ^ 63
+low-part_of_row s (row.Instance i) = low-root_of s i
+low-part_of_row s (row.Volume v) = low-sized v.pool v.config
+low-part_of_row s (row.Project r) = omega arith
+low-part_of_row s (row.Profile r) = omega arith
+low-part_of_row s (row.Network r) = omega arith
+low-part_of_row s (row.Pool r) = omega arith
+low-part_of_row s (row.Snapshot r) = omega arith
+
+low-part_over : (s : State) (new : Row) (old : Option Instance) → (part_over s new old).disk < 2 ^ 63
+low-part_over s new None = low-part_of_row s new
+low-part_over s new (Some old) = at (bytes_eq old.project (project_of_row new)) where
+  at : (t : Bool) → (cond t (part_above (part_of_row s new) (part_of_instance s old)) (part_of_row s new)).disk < 2 ^ 63
+  at true =
+      let low = low-part_of_row s new in
+      let less : amount_above (part_of_row s new).disk (on_pool (part_of_row s new).pool (part_of_instance s old)) ≤ (part_of_row s new).disk = grind (arith, nat_tests) in
+      omega (arith, low, less)
+  at false = low-part_of_row s new
+
+pub low-part_of_share : (s : State) (task : Task) → (part_of_share s task).disk < 2 ^ 63
+unfolding part_of_share
+low-part_of_share s task = at task.claim where
+  at : (claim : Option Row) → (option_map_or (λ new. part_over s new (replaced_instance s task)) claim no_part).disk < 2 ^ 63
+  at None = omega arith
+  at (Some new) = low-part_over s new (replaced_instance s task)
+
 -- ---- loads
 
-small-mapped : {X : Type 0} (f : X → Load) (xs : List X) → ((x : X) → IsSmall (f x)) → AreSmall (map f xs)
+pub small-mapped : {X : Type 0} (f : X → Load) (xs : List X) → ((x : X) → IsSmall (f x)) → AreSmall (map f xs)
 small-mapped f [] h = All-nil IsSmall
 small-mapped f (x ∷ xs) h = All-cons IsSmall (f x) (map f xs) (h x) (small-mapped f xs h)
 
-small-read : {X : Type 0} (f : X → Option Load) (xs : List X) → ((x : X) (l : Load) → f x ≡ Some l → IsSmall l) → AreSmall (filter_map f xs)
+pub small-read : {X : Type 0} (f : X → Option Load) (xs : List X) → ((x : X) (l : Load) → f x ≡ Some l → IsSmall l) → AreSmall (filter_map f xs)
 small-read f [] h = All-nil IsSmall
 small-read f (x ∷ xs) h = at (f x) refl (small-read f xs h) where
   at : (o : Option Load) → f x ≡ o → AreSmall (filter_map f xs) → AreSmall (cons_option o (filter_map f xs))
   at None is rest = rest
   at (Some l) is rest = All-cons IsSmall l (filter_map f xs) (h x l is) rest
 
-small-claim : (s : State) (task : Task) (l : Load) → claim_load s task ≡ Some l → IsSmall l
+pub small-claim : (s : State) (task : Task) (l : Load) → claim_load s task ≡ Some l → IsSmall l
 small-claim s task l = at task.claim where
   load : Row → Load
-  load new = record { project = project_of_row new; amounts = share_of s task }
+  load new = record { project = project_of_row new; amounts = share_of s task; on = part_of_share s task }
 
   at : (claim : Option Row) → option_map load claim ≡ Some l → IsSmall l
   at None e = cc
-  at (Some new) e = subst (λ o. IsSmall (unwrap_or o l)) e (record { parts = low-share_of s task })
+  at (Some new) e = subst (λ o. IsSmall (unwrap_or o l)) e (record { parts = low-share_of s task; on = low-part_of_share s task })
 
 pub small-loads : (s : State) → AreSmall (loads s)
 unfolding loads
 small-loads s = All-append IsSmall _ _
     (All-append IsSmall _ _
-    (small-mapped (instance_load s) s.instances (λ i. record { parts = low-of_instance s i }))
-    (small-mapped volume_load s.volumes (λ v. record { parts = low-volume v.config })))
+    (small-mapped (instance_load s) s.instances (λ i. record { parts = low-of_instance s i; on = low-root_of s i }))
+    (small-mapped volume_load s.volumes (λ v. record { parts = low-volume v.config; on = low-sized v.pool v.config })))
     (small-read (λ o. claim_load s o.work) s.operations.live (λ o l is. small-claim s o.work l is))

@@ -1,5 +1,7 @@
 pub mod AnyRows
+pub mod Footprints
 pub mod Loads
+pub mod PoolLimits
 pub mod Lent
 pub mod Rising
 pub mod Counted

@@ -4,25 +4,59 @@ ghost use Rattle.std.specs.List.{filter_map, sum_by};
 ghost use Rattle.std.specs.Option.{option_copied, option_to_list};
 ghost use Rattle.size_values.specs.Amounts.{part};
 ghost use Rattle.size_values.specs.declared.amounts.Part.{Part};
-ghost use Rattle.row_machine.specs.machine.Claims.{amounts_of_instance, amounts_of, project_of_row, share_over};
-ghost use Rattle.row_machine.specs.machine.Claims.{share_of, of_live};
+ghost use Rattle.project_limits.specs.Pools.{root_part};
+ghost use Rattle.row_machine.specs.machine.Claims.{project_of_row, share_of};
 ghost use Rattle.row_machine.specs.machine.Usage.{loads, instance_load, volume_load, claim_load, amount_for};
+ghost use Rattle.row_readings.specs.Footprints.{no_footprint, footprint_above, instance_footprint, volume_footprint};
+ghost use Rattle.row_readings.specs.Footprints.{row_footprint, footprint_over, share_footprint};
 ghost use Rattle.row_readings.specs.Loads.{AreSmall};
 
 use crate::claims::replaced_instance;
 use crate::state_ref::StateRef;
+use config_lists::Devices;
 use operations::Operation;
+use project_limits::{disk_in, root_pool};
 use records::{Instance, Row, Volume};
 use row_machine::Task;
-use size_values::{Amounts, Boxed, NoMemory, Text};
+use size_values::{Amounts, Boxed, NoMemory, PoolPart, Text};
 use std::alloc::Global;
 use std::marker::Model;
 
-/// What counts for the limits of a project.
+/// What an instance, a volume or an operation counts for: amounts, and of their disk what is on a storage pool.
+#[derive(Drop)]
+pub struct Footprint {
+    pub amounts: Amounts,
+    pub on: PoolPart,
+}
+
+impl Footprint {
+    /// Nothing. It takes no memory.
+    pub fn none(alloc: Global) -> Footprint
+        ensures { result ≡ no_footprint }
+    {
+        Footprint {
+            amounts: Amounts::zero(),
+            on: PoolPart::none(alloc),
+        }
+    }
+
+    /// By how much it is above another one, part by part and on its pool.
+    pub fn above(self, other: &Footprint) -> Footprint
+        ensures { result ≡ footprint_above self other.now }
+    {
+        Footprint {
+            amounts: self.amounts.excess(&other.amounts),
+            on: self.on.above(&other.on),
+        }
+    }
+}
+
+/// What counts for the limits of a project: amounts, and of their disk what is on a storage pool.
 #[derive(Drop)]
 pub struct Load {
     pub project: Text,
     pub amounts: Amounts,
+    pub on: PoolPart,
 }
 
 impl Model for Load {
@@ -30,7 +64,7 @@ impl Model for Load {
 
     ghost Value = { LoadValue };
 
-    ghost view = { λ l. record { project = l.project; amounts = l.amounts } };
+    ghost view = { λ l. record { project = l.project; amounts = l.amounts; on = l.on } };
 }
 
 impl Load {
@@ -46,30 +80,59 @@ impl Load {
     }
 }
 
-/// What an instance counts for.
-#[tactic(auto, unfolding(row_machine::specs::machine::Claims::amounts_of_instance))]
-pub fn amounts_of_instance(
+// ---- what each counts for
+
+/// What an instance counts for. What it has by its profiles is laid once for all of it.
+#[tactic(auto, unfolding(row_machine::specs::machine::Claims::amounts_of_instance, row_machine::specs::machine::Claims::part_of_instance))]
+pub fn footprint_of_instance(
     alloc: Global,
     view: &StateRef<'_>,
     row: &Instance,
-) -> Result<Amounts, NoMemory>
-    ensures { IfOk result (λ a. a ≡ amounts_of_instance view.now row.now) }
+) -> Result<Footprint, NoMemory>
+    ensures { IfOk result (λ f. f ≡ instance_footprint view.now row.now) }
 {
     let expanded = view.expansion(alloc, row)?;
     let amounts = project_limits::amounts_of(row.kind, &expanded.config, &expanded.devices);
+    let on = part_of_root(alloc, &expanded.devices);
     drop(expanded);
-    Ok(amounts)
+    Ok(Footprint { amounts, on: on? })
 }
 
-/// What a row counts for. Only instances and volumes do.
-fn amounts_of(alloc: Global, view: &StateRef<'_>, row: &Row) -> Result<Amounts, NoMemory>
-    ensures { IfOk result (λ a. a ≡ amounts_of view.now row.now) }
+/// What the one root disk of these devices has on its pool.
+#[tactic(auto, unfolding(project_limits::specs::Pools::root_part))]
+fn part_of_root(alloc: Global, devices: &Devices) -> Result<PoolPart, NoMemory>
+    ensures { IfOk result (λ p. p ≡ root_part devices.now) }
+{
+    match root_pool(devices) {
+        Some(pool) => Ok(PoolPart {
+            pool: Text::from_text(alloc, pool)?,
+            disk: u128::from(disk_in(devices).unwrap_or(0)),
+        }),
+        None => Ok(PoolPart::none(alloc)),
+    }
+}
+
+/// What a volume counts for.
+#[tactic(auto, unfolding(project_limits::specs::Pools::sized_part, project_limits::specs::Instance::volume_amounts))]
+fn footprint_of_volume(alloc: Global, row: &Volume) -> Result<Footprint, NoMemory>
+    ensures { IfOk result (λ f. f ≡ volume_footprint row.now) }
+{
+    let amounts = project_limits::volume_amounts(&row.config);
+    let on = PoolPart {
+        pool: row.pool.copy(alloc)?,
+        disk: amounts.disk,
+    };
+    Ok(Footprint { amounts, on })
+}
+
+fn footprint_of_row(alloc: Global, view: &StateRef<'_>, row: &Row) -> Result<Footprint, NoMemory>
+    ensures { IfOk result (λ f. f ≡ row_footprint view.now row.now) }
 {
     match row {
-        Row::Instance(row) => amounts_of_instance(alloc, view, row),
-        Row::Volume(row) => Ok(project_limits::volume_amounts(&row.config)),
+        Row::Instance(row) => footprint_of_instance(alloc, view, row),
+        Row::Volume(row) => footprint_of_volume(alloc, row),
         Row::Project(_) | Row::Profile(_) | Row::Network(_) | Row::Pool(_) | Row::Snapshot(_) => Ok(
-            Amounts::zero(),
+            Footprint::none(alloc),
         ),
     }
 }
@@ -89,36 +152,51 @@ pub fn project_of_row(row: &Row) -> &str
     }
 }
 
-/// What a claimed row adds to the usage of its project, above what the instance that it replaces counts for there.
-fn share_over(
+/// By how much a claimed row is above the one that it replaces in its own project.
+fn footprint_over(
     alloc: Global,
     view: &StateRef<'_>,
     new: &Row,
     old: Option<&Instance>,
-) -> Result<Amounts, NoMemory>
-    ensures { IfOk result (λ a. a ≡ share_over view.now new.now (option_copied old.entry)) }
+) -> Result<Footprint, NoMemory>
+    ensures { IfOk result (λ f. f ≡ footprint_over view.now new.now (option_copied old.entry)) }
 {
-    let amounts = amounts_of(alloc, view, new)?;
     let Some(old) = old else {
-        return Ok(amounts);
+        return footprint_of_row(alloc, view, new);
     };
     if old.project.view() == project_of_row(new) {
-        Ok(amounts.excess(&amounts_of_instance(alloc, view, old)?))
+        let before = footprint_of_instance(alloc, view, old)?;
+        let after = footprint_of_row(alloc, view, new)?;
+        Ok(after.above(&before))
     } else {
-        Ok(amounts)
+        footprint_of_row(alloc, view, new)
     }
 }
 
-/// What the claimed row of an operation adds to the usage of that row's project, by the rows as they stand.
-#[tactic(auto, unfolding(row_machine::specs::machine::Claims::share_of))]
-pub fn share_of(alloc: Global, view: &StateRef<'_>, work: &Task) -> Result<Amounts, NoMemory>
-    ensures { IfOk result (λ a. a ≡ share_of view.now work.now) }
+/// What the claimed row of an operation adds to the usage of that row's project, by the rows as they stand: its share.
+#[tactic(auto, unfolding(row_machine::specs::machine::Claims::share_of, row_machine::specs::machine::Claims::part_of_share))]
+pub fn share_of(alloc: Global, view: &StateRef<'_>, work: &Task) -> Result<Footprint, NoMemory>
+    ensures { IfOk result (λ f. f ≡ share_footprint view.now work.now) }
 {
     match &work.claim {
-        Some(new) => share_over(alloc, view, new, replaced_instance(view, work)),
-        None => Ok(Amounts::zero()),
+        Some(new) => footprint_over(alloc, view, new, replaced_instance(view, work)),
+        None => Ok(Footprint::none(alloc)),
     }
 }
+
+/// The amounts of that share.
+pub(crate) fn amounts_of_share(
+    alloc: Global,
+    view: &StateRef<'_>,
+    work: &Task,
+) -> Result<Amounts, NoMemory>
+    ensures { IfOk result (λ a. a ≡ share_of view.now work.now) }
+{
+    let share = share_of(alloc, view, work)?;
+    Ok(share.amounts)
+}
+
+// ---- all that counts
 
 /// All that counts: instances, volumes, and the shares of live operations.
 pub fn loads(alloc: Global, view: &StateRef<'_>) -> Result<Vec<Load>, NoMemory>
@@ -132,6 +210,18 @@ pub fn loads(alloc: Global, view: &StateRef<'_>) -> Result<Vec<Load>, NoMemory>
     Ok(all)
 }
 
+fn instance_load(alloc: Global, view: &StateRef<'_>, row: &Instance) -> Result<Load, NoMemory>
+    ensures { IfOk result (λ l. l ≡ instance_load view.now row.now) }
+{
+    let project = row.project.copy(alloc)?;
+    let footprint = footprint_of_instance(alloc, view, row)?;
+    Ok(Load {
+        project,
+        amounts: footprint.amounts,
+        on: footprint.on,
+    })
+}
+
 fn add_instances(
     alloc: Global,
     view: &StateRef<'_>,
@@ -141,22 +231,28 @@ fn add_instances(
     ensures { OnOk result (all.new.items ≡ all.old.items ++ map (instance_load view.now) rows.now) }
 {
     for row in rows {
-        all.push(Load {
-            project: row.project.copy(alloc)?,
-            amounts: amounts_of_instance(alloc, view, row)?,
-        })?;
+        all.push(instance_load(alloc, view, row)?)?;
     }
     Ok(())
+}
+
+fn volume_load(alloc: Global, row: &Volume) -> Result<Load, NoMemory>
+    ensures { IfOk result (λ l. l ≡ volume_load row.now) }
+{
+    let project = row.project.copy(alloc)?;
+    let footprint = footprint_of_volume(alloc, row)?;
+    Ok(Load {
+        project,
+        amounts: footprint.amounts,
+        on: footprint.on,
+    })
 }
 
 fn add_volumes(alloc: Global, rows: &[Boxed<Volume>], all: &mut Vec<Load>) -> Result<(), NoMemory>
     ensures { OnOk result (all.new.items ≡ all.old.items ++ map volume_load rows.now) }
 {
     for row in rows {
-        all.push(Load {
-            project: row.project.copy(alloc)?,
-            amounts: project_limits::volume_amounts(&row.config),
-        })?;
+        all.push(volume_load(alloc, row)?)?;
     }
     Ok(())
 }
@@ -187,9 +283,12 @@ fn add_claim(
     let Some(new) = &work.claim else {
         return Ok(());
     };
+    let project = Text::from_text(alloc, project_of_row(new))?;
+    let share = share_of(alloc, view, work)?;
     all.push(Load {
-        project: Text::from_text(alloc, project_of_row(new))?,
-        amounts: share_of(alloc, view, work)?,
+        project,
+        amounts: share.amounts,
+        on: share.on,
     })?;
     Ok(())
 }

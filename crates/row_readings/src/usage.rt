@@ -5,7 +5,7 @@ ghost use Rattle.size_values.specs.declared.amounts.Part.{Part};
 ghost use Rattle.row_machine.specs.machine.Usage.{usage_of};
 ghost use Rattle.row_readings.specs.Counted.{volume_part, claim_part};
 
-use crate::amounts::{project_of_row, share_of};
+use crate::amounts::{amounts_of_share, project_of_row};
 use crate::instances::add_instances;
 use crate::places::rows_of;
 use crate::state_ref::StateRef;
@@ -82,7 +82,7 @@ fn claim_counts(
     ensures { IfOk result (λ a. (k : Part) → part k a ≡ claim_part view.now project.now k work.now) }
 {
     match &work.claim {
-        Some(new) if project_of_row(new) == project => share_of(alloc, view, work),
+        Some(new) if project_of_row(new) == project => amounts_of_share(alloc, view, work),
         _ => Ok(Amounts::zero()),
     }
 }

@@ -1,5 +1,6 @@
 pub mod Countables
 mod OwnRows
+pub mod PoolTables
 pub mod Serving
 mod Summed
 mod Tables

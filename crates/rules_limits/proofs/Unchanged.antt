@@ -1,12 +1,11 @@
 -- Changes that put no project with a limit leave projects without limits.
-use Rattle.std.proofs.Common.{◌≡◌, ℕ, Bool, false, List, [], ◌∷◌}
+use Rattle.std.proofs.Common.{◌≡◌, ℕ, false, List, [], ◌∷◌}
 use Rattle.std.specs.List.{list_any}
 use Rattle.plain_lists.specs.Members.{Each}
 use Rattle.plain_lists.proofs.EditLemmas.{replaced-is, Each-Replaces, Each-dropped}
 use Rattle.plain_lists.proofs.Searches.{any-none, none-any}
 use Rattle.size_values.specs.declared.kinds.ObjectKind.{ObjectKind}
 use Rattle.size_values.specs.declared.kinds.ObjectKind.TheVariants as kind
-use Rattle.project_limits.specs.Limits.{limits_of}
 use Rattle.records.specs.declared.rows.Project.{Project}
 use Rattle.records.specs.declared.rows.Row.{Row}
 use Rattle.records.specs.declared.rows.Row.TheVariants as row
@@ -15,11 +14,11 @@ use Rattle.row_machine.specs.declared.changes.RowChange.TheVariants as change
 use Rattle.row_machine.specs.machine.State.{State}
 use Rattle.row_machine.specs.machine.Rows.{is_project, project_names, texts_before}
 use Rattle.row_machine.specs.machine.Changes.{with_row, without_row, changed, applied, has_key}
-use Rattle.rules_limits.specs.AllProjects.{limits_any, is_any_limited, is_limited_row, sets_limit}
+use Rattle.rules_limits.specs.AllProjects.{is_any_limited, is_limited, is_limited_row, sets_limit}
 use Rattle.rules_limits.proofs.Unlimited.{neither}
 
 -- a fact on each project that one without a limit meets
-module _ (P : Project → Type 0) (frees : (p : Project) → limits_any (limits_of p.config) ≡ false → P p) where
+module _ (P : Project → Type 0) (frees : (p : Project) → is_limited p ≡ false → P p) where
   put-free : (r : Row) (s : State) → is_limited_row r ≡ false → Each P s.projects → Each P (with_row r s).projects
   put-free (row.Project p) s e free =
       Each-Replaces P (replaced-is (is_project p.name) (λ y. texts_before (project_names p) (project_names y)) p s.projects) (frees p e) free
@@ -49,10 +48,6 @@ module _ (P : Project → Type 0) (frees : (p : Project) → limits_any (limits_
   all-free (c ∷ cs) s e free =
       let parts = neither (sets_limit c) (list_any sets_limit cs) e in
       all-free cs (changed s c) parts.1 (change-free c s parts.0 free)
-
--- whether a project has a limit
-abbrev is_limited : Project → Bool
-is_limited p = limits_any (limits_of p.config)
 
 pub stays-free : (s : State) (cs : List RowChange) → is_any_limited s.projects ≡ false → list_any sets_limit cs ≡ false → is_any_limited (applied s cs).projects ≡ false
 stays-free s cs none unset =

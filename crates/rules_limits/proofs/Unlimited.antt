@@ -1,6 +1,6 @@
--- Where a project limits no sum, all is countable; where no project has a limit, none is exceeded.
-use Rattle.std.proofs.Common.{◌≡◌, ℕ, Bool, true, false, ◌||◌, Option, Some, None, List, [], ◌∷◌, refl, ap}
-use Rattle.std.specs.Option.{option_and_then, option_map, option_map_or}
+-- Where a project limits no sum and no pool, all is countable; where no project has a limit, none is exceeded.
+use Rattle.std.proofs.Common.{◌≡◌, ℕ, Bool, true, false, ◌||◌, Option, Some, None, List, [], ◌∷◌, map, refl, ap}
+use Rattle.std.specs.Option.{option_and_then, option_map_or}
 use Rattle.std.specs.Prelude.{codes, is_some}
 use Rattle.plain_lists.specs.Members.{Each}
 use Rattle.plain_lists.specs.Firsts.{first_of}
@@ -21,6 +21,8 @@ use Rattle.project_limits.specs.declared.admission.LimitKey.TheVariants.{Network
 use Rattle.project_limits.specs.Countable.{first_without_amount, volume_without_amount, sum_limit, sums, without_amount as sum_without_amount}
 use Rattle.project_limits.specs.Instance.{counted}
 use Rattle.project_limits.specs.Limits.{size_in, limits_of}
+use Rattle.project_limits.specs.Pools.{limited_pools, limits_pools}
+use Rattle.project_limits.proofs.PoolKeys.{no-pools, sized-root, sized-volume}
 use Rattle.records.specs.declared.rows.Project.{Project}
 use Rattle.records.specs.declared.rows.Volume.{Volume}
 use Rattle.records.specs.declared.rows.Instance.{Instance}
@@ -30,11 +32,12 @@ use Rattle.row_machine.specs.machine.Rows.{project_named}
 use Rattle.row_machine.specs.machine.State.{State}
 use Rattle.row_machine.specs.machine.Usage.{used, networks_of}
 use Rattle.row_machine.specs.machine.Expansions.{expanded_of}
-use Rattle.row_machine.specs.machine.LimitRules.{project_without_amount, claim_without_amount, instance_without_amount, volume_lacks_amount, limits_broken, part_exceeds, networks_exceed, limit_exceeded, object_without_amount}
+use Rattle.row_machine.specs.machine.LimitRules.{project_without_amount, claim_without_amount, instance_without_amount, volume_lacks_amount, limits_broken, part_exceeds, networks_exceed, pool_exceeds, pools_exceed, limit_exceeded, object_without_amount, object_without_size}
 use Rattle.rules_refusals.proofs.Saying.{none-or}
-use Rattle.rules_limits.specs.AllProjects.{limits_sum, limits_any, is_any_limited}
+use Rattle.row_readings.specs.PoolLimits.{limit_of, own_limits}
+use Rattle.rules_limits.specs.AllProjects.{limits_sum, limits_any, is_any_limited, is_limited, needs_numbers}
 use Rattle.rules_limits.specs.Limited.{has_limits}
-use Rattle.rules_limits.specs.OneProject.{amounts_over, of_project, uses_over}
+use Rattle.rules_limits.specs.OneProject.{amounts_over, of_project, pool_uses_over, uses_over}
 use Rattle.rules_limits.specs.Sums.{line_over}
 use Rattle.rules_limits.specs.declared.one_project.InUse.{InUse}
 
@@ -90,7 +93,13 @@ no-limit l e =
 
 -- ---- what limited sums need
 
-module _ (p : Project) (free : HasNoSum (limits_of p.config)) where
+module _ (p : Project) (none : needs_numbers p ≡ false) where
+  free : HasNoSum (limits_of p.config)
+  free = no-sum (limits_of p.config) (neither (limits_sum (limits_of p.config)) (limits_pools p.config) none).0
+
+  no_pools : limits_pools p.config ≡ false
+  no_pools = (neither (limits_sum (limits_of p.config)) (limits_pools p.config) none).1
+
   first_without_amount-none : (kind : Kind) (config : Settings) (devices : NamedDevices) → first_without_amount (limits_of p.config) kind config devices ≡ None
   unfolding first_without_amount
   first_without_amount-none kind config devices =
@@ -100,12 +109,16 @@ module _ (p : Project) (free : HasNoSum (limits_of p.config)) where
   instance-none : (s : State) (i : Instance) → instance_without_amount s p i ≡ None
   unfolding instance_without_amount
   instance-none s i =
-      ap (object_without_amount p i.name)
-      (first_without_amount-none i.kind (expanded_of s.projects s.profiles i).config (expanded_of s.projects s.profiles i).devices)
+      none-or
+      (ap (object_without_amount p i.name)
+      (first_without_amount-none i.kind (expanded_of s.projects s.profiles i).config (expanded_of s.projects s.profiles i).devices))
+      (none-or (ap (object_without_size p i.name) (sized-root p.config (expanded_of s.projects s.profiles i).devices no_pools)) refl)
 
   volume-none : (v : Volume) → volume_lacks_amount p v ≡ None
   unfolding volume_lacks_amount volume_without_amount
-  volume-none v = ap (λ limit. object_without_amount p v.name (sum_without_amount sum.Disk limit (size_in v.config (codes "size")))) (free.none sum.Disk)
+  volume-none v =
+      none-or (ap (λ limit. object_without_amount p v.name (sum_without_amount sum.Disk limit (size_in v.config (codes "size")))) (free.none sum.Disk))
+      (none-or (ap (object_without_size p v.name) (sized-volume p.config v.pool v.config no_pools)) refl)
 
   claim-none : (s : State) (task : Task) → claim_without_amount s p task ≡ None
   claim-none s task =
@@ -120,20 +133,34 @@ module _ (p : Project) (free : HasNoSum (limits_of p.config)) where
 
 -- ---- limits
 
+-- a project without one
+pub record IsFree (p : Project) : Type 0 where
+  pub limits : HasNone (limits_of p.config)
+  pub pools : limited_pools p.config ≡ []
+
+pub is-free : (p : Project) → is_limited p ≡ false → IsFree p
+is-free p e =
+    let both = neither (limits_any (limits_of p.config)) (limits_pools p.config) e in
+    record { limits = no-limit (limits_of p.config) both.0; pools = no-pools p.config both.1 }
+
 -- none of the projects has a limit
-each-free : (ps : List Project) → is_any_limited ps ≡ false → Each (λ p. HasNone (limits_of p.config)) ps
+each-free : (ps : List Project) → is_any_limited ps ≡ false → Each IsFree ps
 each-free [] e = Each-none
 each-free (p ∷ ps) e =
-    let parts = neither (limits_any (limits_of p.config)) (is_any_limited ps) e in
-    Each-cons (λ (q : Project). HasNone (limits_of q.config)) (no-limit (limits_of p.config) parts.0) (each-free ps parts.1)
+    let parts = neither (is_limited p) (is_any_limited ps) e in
+    Each-cons IsFree (is-free p parts.0) (each-free ps parts.1)
 
-part-none : (s after : State) (k : Part) (p : Project) → HasNone (limits_of p.config) → part_exceeds s after k p ≡ None
+part-none : (s after : State) (k : Part) (p : Project) → IsFree p → part_exceeds s after k p ≡ None
 unfolding part_exceeds
-part-none s after k p free = ap (λ limit. limit_exceeded p (key_of k) limit (used s p.name k) (used after p.name k)) (free.parts k)
+part-none s after k p free = ap (λ limit. limit_exceeded p (key_of k) limit (used s p.name k) (used after p.name k)) (free.limits.parts k)
 
-networks-none : (s after : State) (p : Project) → HasNone (limits_of p.config) → networks_exceed s after p ≡ None
+networks-none : (s after : State) (p : Project) → IsFree p → networks_exceed s after p ≡ None
 unfolding networks_exceed
-networks-none s after p free = ap (λ limit. limit_exceeded p Networks limit (networks_of s p.name) (networks_of after p.name)) free.networks
+networks-none s after p free = ap (λ limit. limit_exceeded p Networks limit (networks_of s p.name) (networks_of after p.name)) free.limits.networks
+
+pools-none : (s after : State) (p : Project) → IsFree p → pools_exceed s after p ≡ None
+unfolding pools_exceed
+pools-none s after p free = ap (first_of (pool_exceeds s after p)) free.pools
 
 pub unlimited-fits : (before after : State) → is_any_limited after.projects ≡ false → limits_broken before after ≡ None
 unfolding limits_broken
@@ -142,7 +169,8 @@ unlimited-fits before after e =
     none-or
     (none-first_of (λ k. first_of (part_exceeds before after k) after.projects) parts
     (record { at = λ k m. none-first_of (part_exceeds before after k) after.projects (Each-map (part-none before after k) free) }))
-    (none-or (none-first_of (networks_exceed before after) after.projects (Each-map (networks-none before after) free)) refl)
+    (none-or (none-first_of (networks_exceed before after) after.projects (Each-map (networks-none before after) free))
+    (none-or (none-first_of (pools_exceed before after) after.projects (Each-map (pools-none before after) free)) refl))
 
 -- ---- limits of one project
 
@@ -153,15 +181,19 @@ module _ (p : Project) (free : limits_any (limits_of p.config) ≡ false) where
     at = λ k m. ap (λ limit. limit_exceeded p (key_of k) limit (part k before) (part k after)) ((no-limit (limits_of p.config) free).parts k);
   })
 
-  pub unlimited-uses : (before after : InUse) → uses_over before after p ≡ None
-  unlimited-uses before after = none-or (unlimited-amounts before.amounts after.amounts)
-      (none-or (ap (λ limit. limit_exceeded p Networks limit before.networks after.networks) (no-limit (limits_of p.config) free).networks) refl)
+-- whatever it uses, of pools too
+pub unlimited-uses : (p : Project) → is_limited p ≡ false → (before after : InUse) → uses_over (own_limits p) before after p ≡ None
+unlimited-uses p none before after =
+    let both = neither (limits_any (limits_of p.config)) (limits_pools p.config) none in
+    let free = is-free p none in
+    none-or (unlimited-amounts p both.0 before.amounts after.amounts)
+    (none-or (ap (λ limit. limit_exceeded p Networks limit before.networks after.networks) free.limits.networks)
+    (none-or (ap (λ pools. pool_uses_over (map (limit_of p) pools) before.pools after.pools) free.pools) refl))
 
 -- of the project of a name
 pub unlimited-named : (ps : List Project) (name : List ℕ) (before after : InUse) → has_limits ps name ≡ false
-    → of_project (uses_over before after) ps name ≡ None
+    → of_project (λ p. uses_over (own_limits p) before after p) ps name ≡ None
 unlimited-named ps name before after = at (project_named ps name) where
-  at : (o : Option Project) → option_map_or limits_any (option_map (λ p. limits_of p.config) o) false ≡ false
-      → option_and_then (uses_over before after) o ≡ None
-  at None free = refl
-  at (Some p) free = unlimited-uses p free before after
+  at : (o : Option Project) → option_map_or is_limited o false ≡ false → option_and_then (λ p. uses_over (own_limits p) before after p) o ≡ None
+  at None none = refl
+  at (Some p) none = unlimited-uses p none before after

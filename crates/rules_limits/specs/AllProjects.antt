@@ -6,6 +6,7 @@ use Rattle.plain_lists.specs.Firsts.{first, first_of}
 use Rattle.size_values.specs.declared.amounts.Part.{Part}
 use Rattle.project_limits.specs.Admission.{key_of, limit_on, parts}
 use Rattle.project_limits.specs.Limits.{limits_of}
+use Rattle.project_limits.specs.Pools.{limits_pools}
 use Rattle.project_limits.specs.declared.admission.LimitKey.TheVariants.{Networks}
 use Rattle.project_limits.specs.declared.limits.Limits.{Limits}
 use Rattle.records.specs.declared.refusals.Refusal.{Refusal}
@@ -18,7 +19,9 @@ use Rattle.row_machine.specs.declared.changes.RowChange.TheVariants as change
 use Rattle.row_machine.specs.machine.State.{State}
 use Rattle.row_machine.specs.machine.Usage.{Load, loads, amount_for}
 use Rattle.row_machine.specs.machine.LimitRules.{limit_exceeded}
+use Rattle.row_readings.specs.PoolLimits.{all_limits}
 use Rattle.rules_limits.specs.Counting.{Counts, counts_in}
+use Rattle.rules_limits.specs.Pools.{pools_over}
 
 -- one part of what a project uses
 abbrev pub part_over : List Load → List Load → Part → Project → Option Refusal
@@ -42,7 +45,7 @@ networks_over before after project =
 abbrev pub limits_sum : Limits → Bool
 limits_sum limits = is_some limits.cpu || is_some limits.memory || is_some limits.processes || is_some limits.disk
 
--- whether there is any limit
+-- whether there is any limit but those on pools
 abbrev pub limits_any : Limits → Bool
 limits_any limits =
     is_some limits.instances
@@ -51,13 +54,21 @@ limits_any limits =
     || is_some limits.networks
     || limits_sum limits
 
+-- whether a project has any limit, on pools too
+abbrev pub is_limited : Project → Bool
+is_limited project = limits_any (limits_of project.config) || limits_pools project.config
+
+-- whether it has one for which instances and volumes give numbers
+abbrev pub needs_numbers : Project → Bool
+needs_numbers project = limits_sum (limits_of project.config) || limits_pools project.config
+
 -- whether one of the projects has a limit
 abbrev pub is_any_limited : List Project → Bool
-is_any_limited projects = list_any (λ project. limits_any (limits_of project.config)) projects
+is_any_limited projects = list_any is_limited projects
 
 -- whether a row is a project with a limit
 abbrev pub is_limited_row : Row → Bool
-is_limited_row (row.Project project) = limits_any (limits_of project.config)
+is_limited_row (row.Project project) = is_limited project
 is_limited_row other = false
 
 -- whether a change puts a project with a limit
@@ -70,9 +81,10 @@ sets_limit (change.Remove of key) = false
 abbrev pub Serves : Counts → State → State → Type 0
 Serves counts before after = (counts ≡ counts_in before) ⊎ (is_any_limited after.projects ≡ false)
 
--- the first part that is exceeded, or else the number of networks, by what counted before
+-- the first part that is exceeded, or else the number of networks, or else a pool, by what counted before
 abbrev pub all_over : Counts → State → Option Refusal
 all_over before after = first
     (parts_over before.loads (loads after) after.projects
     ∷ first_of (networks_over before.networks after.networks) after.projects
+    ∷ pools_over before.loads (loads after) (all_limits after.projects)
     ∷ [])

@@ -1,4 +1,4 @@
-//! L1 to L8 of all projects: that each stands within its limits.
+//! L1 to L9 of all projects: that each stands within its limits.
 ghost use Rattle.std.specs.Prelude.{◌≡◌, ◌<◌, ◌^◌, filter, length};
 ghost use Rattle.std.specs.Str.{bytes_eq};
 ghost use Rattle.plain_lists.specs.Firsts.{first_of};
@@ -16,6 +16,7 @@ ghost use Rattle.rules_limits.specs.Sums.{line_over, lines, lines_over};
 use crate::exceeded::{limit_exceeded, line_exceeds};
 use crate::limited::{Limited, is_any_limited, limited_projects};
 use crate::parts::PARTS;
+use crate::pool_lines::pools_exceed;
 use crate::sums::sums_of;
 use crate::usage::{Usage, usage_before};
 use project_limits::LimitKey;
@@ -84,22 +85,6 @@ fn parts_exceed(
     sums_exceed(alloc, limited, &before, &after)
 }
 
-fn loads_exceed(
-    alloc: Global,
-    before: &[Load],
-    after: &StateRef<'_>,
-    projects: &[Limited<'_>],
-) -> Result<(), Or<Refusal>>
-    requires before { AreSmall before.now }
-    requires same { projects.now ≡ after.now.projects }
-    ensures { Says result (parts_over before.now (loads after.now) after.now.projects) }
-{
-    let all = loads(alloc, after)?;
-    let exceeded = parts_exceed(alloc, before, &all, after.projects, projects);
-    drop(all);
-    exceeded
-}
-
 // ---- the number of networks
 
 fn networks_before(names: &[Text], project: &Text) -> u128
@@ -155,6 +140,24 @@ fn networks_exceed(
 
 // ---- all limits
 
+/// By all that counts after the change.
+fn uses_exceed(
+    alloc: Global,
+    before: &Usage,
+    all: &[Load],
+    after: &StateRef<'_>,
+    projects: &[Limited<'_>],
+) -> Result<(), Or<Refusal>>
+    requires all { all.now ≡ loads after.now }
+    requires small { AreSmall all.now }
+    requires same { projects.now ≡ after.now.projects }
+    ensures { Says result (all_over before.now after.now) }
+{
+    parts_exceed(alloc, before.loads(), all, after.projects, projects)?;
+    networks_exceed(alloc, before.networks(), after.networks, projects)?;
+    pools_exceed(alloc, before.loads(), all, after.projects)
+}
+
 fn limits_exceed(
     alloc: Global,
     before: &Usage,
@@ -164,11 +167,13 @@ fn limits_exceed(
     requires { projects.now ≡ after.now.projects }
     ensures { Says result (all_over before.now after.now) }
 {
-    loads_exceed(alloc, before.loads(), after, projects)?;
-    networks_exceed(alloc, before.networks(), after.networks, projects)
+    let all = loads(alloc, after)?;
+    let exceeded = uses_exceed(alloc, before, &all, after, projects);
+    drop(all);
+    exceeded
 }
 
-/// L1 to L8 of all projects, each with its limits: the first limit that is exceeded, and the first project at which it
+/// L1 to L9 of all projects, each with its limits: the first limit that is exceeded, and the first project at which it
 /// is. `before` is what counted before the change. Where no project has a limit after it, nothing is summed.
 pub fn limits_broken(
     alloc: Global,
@@ -186,7 +191,7 @@ pub fn limits_broken(
     limits_exceed(alloc, before, after, projects)
 }
 
-/// L1 to L8 of all projects as they stand, without a change: the first limit that is exceeded, and the first project at
+/// L1 to L9 of all projects as they stand, without a change: the first limit that is exceeded, and the first project at
 /// which it is. Where no project has a limit, nothing is summed.
 pub fn standing_limits_broken(alloc: Global, view: &StateRef<'_>) -> Result<(), Or<Refusal>>
     ensures { Says result (limits_broken view.now view.now) }

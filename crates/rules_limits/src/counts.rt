@@ -1,22 +1,28 @@
-//! L0: that each instance and volume gives a number for each limited sum.
-ghost use Rattle.std.specs.Prelude.{◌≡◌, option_and_then};
-ghost use Rattle.plain_lists.specs.Firsts.{first_of};
+//! L0: that each instance and volume gives a number for each limited sum, and has a size on a limited pool.
+ghost use Rattle.std.specs.Prelude.{◌≡◌, ◌∷◌, [], option_and_then};
+ghost use Rattle.std.specs.Option.{option_copied};
+ghost use Rattle.plain_lists.specs.Firsts.{first, first_of};
+ghost use Rattle.project_limits.specs.Countable.{first_without_amount};
+ghost use Rattle.project_limits.specs.Limits.{limits_of};
+ghost use Rattle.project_limits.specs.Pools.{pool_without_size};
 ghost use Rattle.size_values.specs.Causes.{Says};
 ghost use Rattle.row_machine.specs.machine.Claims.{claimed_instance, claimed_volume};
-ghost use Rattle.row_machine.specs.machine.LimitRules.{sum_text, object_without_amount, claim_without_amount};
-ghost use Rattle.row_machine.specs.machine.LimitRules.{project_without_amount};
+ghost use Rattle.row_machine.specs.machine.LimitRules.{sum_text, object_without_amount, object_without_size};
+ghost use Rattle.row_machine.specs.machine.LimitRules.{claim_without_amount, project_without_amount};
 ghost use Rattle.row_machine.specs.machine.LimitRules.{counts_broken};
 ghost use Rattle.rules_limits.specs.Within.{own_instance, own_volume, own_objects};
 
 use crate::limited::Limited;
-use crate::parts::limits_sum;
+use config_lists::{Config, Devices};
 use operations::Operation;
-use project_limits::{SumKey, countable, volume_countable};
+use project_limits::{
+    SumKey, countable, pool_without_size, volume_countable, volume_pool_without_size,
+};
 use records::{Instance, Refusal, Rule, Volume};
 use row_machine::Task;
 use row_readings::{StateRef, claimed_instance, claimed_volume, rows_of};
 use rules_refusals::on_key_of;
-use size_values::{Boxed, Or, Text};
+use size_values::{Boxed, Kind, Or, Text};
 use std::alloc::Global;
 
 fn sum_text(key: SumKey) -> &'static str
@@ -46,7 +52,53 @@ fn object_without_amount(
     Err(Or::Why(on_key_of(alloc, Rule::L0, key, name.view(), project.name().view())?))
 }
 
-/// An instance of the project gives no number for a sum that the project limits.
+/// An object of this name has no size on this limited pool.
+fn object_without_size(
+    alloc: Global,
+    project: &Limited<'_>,
+    name: &Text,
+    pool: Option<&str>,
+) -> Result<(), Or<Refusal>>
+    ensures { Says result (object_without_size project.now name.now (option_copied pool.entry)) }
+{
+    let Some(pool) = pool else {
+        return Ok(());
+    };
+    let key = Text::joined(alloc, "limits.disk.pool.", pool)?;
+    let refusal = on_key_of(
+        alloc,
+        Rule::L0,
+        key.view(),
+        name.view(),
+        project.name().view(),
+    );
+    drop(key);
+    Err(Or::Why(refusal?))
+}
+
+/// An object of this name, an instance with these settings and devices, gives no number for a sum that the project
+/// limits, or no size on a pool that it limits.
+fn lacks_amount(
+    alloc: Global,
+    project: &Limited<'_>,
+    name: &Text,
+    kind: Kind,
+    config: &Config,
+    devices: &Devices,
+) -> Result<(), Or<Refusal>>
+    ensures { Says result (first
+        (object_without_amount project.now name.now
+        (first_without_amount (limits_of project.now.config) kind config.now devices.now)
+        ∷ object_without_size project.now name.now (pool_without_size project.now.config devices.now)
+        ∷ [])) }
+{
+    let key = countable(project.limits(), kind, config, devices).err();
+    object_without_amount(alloc, project, name, key)?;
+    let pool = pool_without_size(project.config(), devices);
+    object_without_size(alloc, project, name, pool)
+}
+
+/// An instance of the project gives no number for a sum that the project limits, or has no size on a limited pool.
 #[tactic(auto, unfolding(row_machine::specs::machine::LimitRules::instance_without_amount))]
 fn instance_without_amount(
     alloc: Global,
@@ -60,10 +112,17 @@ fn instance_without_amount(
         return Ok(());
     }
     let expanded = view.expansion(alloc, row)?;
-    let limits = project.limits();
-    let key = countable(limits, row.kind, &expanded.config, &expanded.devices).err();
+    let config = &expanded.config;
+    let lacks = lacks_amount(
+        alloc,
+        project,
+        &row.name,
+        row.kind,
+        config,
+        &expanded.devices,
+    );
     drop(expanded);
-    object_without_amount(alloc, project, &row.name, key)
+    lacks
 }
 
 fn instances_without_amount(
@@ -82,7 +141,7 @@ fn instances_without_amount(
     Ok(())
 }
 
-/// A volume of the project has no size although the project limits its disk.
+/// A volume of the project has no size although the project limits its disk, or its pool.
 #[tactic(auto, unfolding(row_machine::specs::machine::LimitRules::volume_lacks_amount))]
 fn volume_without_amount(
     alloc: Global,
@@ -95,7 +154,9 @@ fn volume_without_amount(
         return Ok(());
     }
     let key = volume_countable(project.limits(), &row.config).err();
-    object_without_amount(alloc, project, &row.name, key)
+    object_without_amount(alloc, project, &row.name, key)?;
+    let pool = volume_pool_without_size(project.config(), row.pool.view(), &row.config);
+    object_without_size(alloc, project, &row.name, pool)
 }
 
 fn volumes_without_amount(
@@ -205,8 +266,8 @@ fn objects_without_amount(
     claims_without_amount(alloc, view, project, view.live)
 }
 
-/// L0 of a project: the first instance, volume or claim of it that gives no number for a sum that it limits. Where it
-/// limits no sum, none is asked.
+/// L0 of a project: the first instance, volume or claim of it that gives no number for a sum that it limits, or no size
+/// on a pool that it limits. Where it limits none, none is asked.
 pub fn project_without_amount(
     alloc: Global,
     view: &StateRef<'_>,
@@ -214,7 +275,7 @@ pub fn project_without_amount(
 ) -> Result<(), Or<Refusal>>
     ensures { Says result (project_without_amount view.now project.now) }
 {
-    if !limits_sum(project.limits()) {
+    if !project.needs_numbers() {
         return Ok(());
     }
     objects_without_amount(alloc, view, project)

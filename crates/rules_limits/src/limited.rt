@@ -2,11 +2,12 @@
 ghost use Rattle.std.specs.Prelude.{◌≡◌, IfOk};
 ghost use Rattle.row_machine.specs.machine.Rows.{project_named};
 ghost use Rattle.project_limits.specs.Limits.{limits_of};
-ghost use Rattle.rules_limits.specs.AllProjects.{is_any_limited, limits_any};
+ghost use Rattle.rules_limits.specs.AllProjects.{is_any_limited, is_limited, needs_numbers};
 ghost use Rattle.rules_limits.specs.Limited.{limits_named};
 
-use crate::parts::limits_any;
-use project_limits::{Limits, limits_of};
+use crate::parts::{limits_any, limits_sum};
+use config_lists::Config;
+use project_limits::{Limits, limits_of, limits_pools};
 use records::Project;
 use row_readings::StateRef;
 use size_values::{NoMemory, Text};
@@ -61,11 +62,25 @@ impl<'x> Limited<'x> {
         &self.limits
     }
 
-    /// Whether it has a limit.
-    pub fn has_limits(&self) -> bool
-        ensures { result ≡ limits_any (limits_of self.now.config) }
+    /// Its settings, in which its limits on pools stand.
+    pub(crate) fn config(&self) -> &'x Config
+        ensures { result.now ≡ self.now.config }
     {
-        limits_any(&self.limits)
+        &self.project.config
+    }
+
+    /// Whether it has a limit, on pools too.
+    pub fn has_limits(&self) -> bool
+        ensures { result ≡ is_limited self.now }
+    {
+        limits_any(&self.limits) || limits_pools(&self.project.config)
+    }
+
+    /// Whether it has a limit for which instances and volumes give numbers.
+    pub(crate) fn needs_numbers(&self) -> bool
+        ensures { result ≡ needs_numbers self.now }
+    {
+        limits_sum(&self.limits) || limits_pools(&self.project.config)
     }
 }
 

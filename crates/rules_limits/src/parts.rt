@@ -4,11 +4,11 @@ ghost use Rattle.std.specs.List.{list_any};
 ghost use Rattle.std.specs.Option.{option_map_or};
 ghost use Rattle.size_values.specs.Amounts.{part};
 ghost use Rattle.project_limits.specs.Admission.{key_of, limit_on};
-ghost use Rattle.project_limits.specs.Limits.{limits_of};
 ghost use Rattle.row_machine.specs.machine.LimitRules.{limit_rule, limit_text};
-ghost use Rattle.rules_limits.specs.AllProjects.{limits_any, limits_sum, is_any_limited, is_limited_row, sets_limit};
+ghost use Rattle.rules_limits.specs.AllProjects.{limits_any, limits_sum, is_limited, is_any_limited};
+ghost use Rattle.rules_limits.specs.AllProjects.{is_limited_row, sets_limit};
 
-use project_limits::{LimitKey, Limits, limits_of};
+use project_limits::{LimitKey, Limits, limits_of, limits_pools};
 use records::{Project, Row, Rule};
 use row_machine::RowChange;
 use size_values::{Amounts, Part};
@@ -78,9 +78,11 @@ pub(crate) fn limit_rule(key: LimitKey) -> Rule
         LimitKey::Processes => Rule::L6,
         LimitKey::Disk => Rule::L7,
         LimitKey::Networks => Rule::L8,
+        LimitKey::DiskOnPool => Rule::L9,
     }
 }
 
+/// The key of a limit; that of a limit on a pool goes on with the pool's name.
 pub(crate) fn limit_text(key: LimitKey) -> &'static str
     ensures { result.now ≡ limit_text key }
 {
@@ -93,6 +95,7 @@ pub(crate) fn limit_text(key: LimitKey) -> &'static str
         LimitKey::Processes => "limits.processes",
         LimitKey::Disk => "limits.disk",
         LimitKey::Networks => "limits.networks",
+        LimitKey::DiskOnPool => "limits.disk.pool.",
     }
 }
 
@@ -116,7 +119,7 @@ pub(crate) fn limits_any(limits: &Limits) -> bool
         || limits_sum(limits)
 }
 
-/// Whether limits, if they are those of a project, set one.
+/// Whether limits, if they are those of a project, set one. Those on pools are not asked.
 pub fn is_limited_by(limits: Option<Limits>) -> bool
     ensures { result ≡ option_map_or limits_any limits false }
 {
@@ -126,10 +129,11 @@ pub fn is_limited_by(limits: Option<Limits>) -> bool
     }
 }
 
+/// Whether a project has a limit, on pools too.
 fn is_limited(project: &Project) -> bool
-    ensures { result ≡ limits_any (limits_of project.now.config) }
+    ensures { result ≡ is_limited project.now }
 {
-    limits_any(&limits_of(&project.config))
+    limits_any(&limits_of(&project.config)) || limits_pools(&project.config)
 }
 
 /// Whether one of the projects has a limit. The limits of each are read until one has some.

@@ -15,7 +15,7 @@ use Rattle.restrictions.specs.declared.rows.Subject.{Subject}
 use Rattle.records.specs.declared.refusals.Refusal.{Refusal}
 use Rattle.records.specs.declared.refusals.Rule.{Rule}
 use Rattle.records.specs.declared.rows.Project.{Project}
-use Rattle.row_machine.specs.machine.LimitRules.{object_without_amount}
+use Rattle.row_machine.specs.machine.LimitRules.{object_without_amount, object_without_size}
 use Rattle.row_machine.specs.machine.PolicyRules.{forbids, policy_rule, forbidden_key}
 use Rattle.row_machine.specs.machine.Refusals.{on_key_of}
 use Rattle.row_machine.specs.machine.SettingRules.{tables_break, setting_refusal}
@@ -88,9 +88,11 @@ unrestricted_told p number judged config devices free =
 
 -- sums
 
-pub without_amount_told : (p : Project) (name : List ℕ) (key : Option SumKey) → without_amount_by key ≡ rule_of (object_without_amount p name key)
-without_amount_told p name None = refl
-without_amount_told p name (Some k) = refl
+pub without_amount_told : (p : Project) (name : List ℕ) (key : Option SumKey) (pool : Option (List ℕ))
+    → without_amount_by key pool ≡ rule_of (first (object_without_amount p name key ∷ object_without_size p name pool ∷ []))
+without_amount_told p name None None = refl
+without_amount_told p name None (Some pool) = refl
+without_amount_told p name (Some k) pool = refl
 
 -- a refusal where a test says so, told as something else
 pub told-where : {R O : Type 0} (o : O) (b : Bool) (r : R) → b ≡ true → option_map (λ why. o) (cond b (Some r) None) ≡ Some o

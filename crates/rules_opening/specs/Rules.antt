@@ -69,9 +69,10 @@ forbidden_rule project number judged config devices =
     option_and_then (λ found. if found.rule == number then Some (policy_rule number) else None)
     (first_forbidden (policy_of project.config) judged config devices)
 
--- the rule that is broken where some sum gets no number
-abbrev pub without_amount_by : Option SumKey → Option Rule
-without_amount_by key = option_map (λ sum. rule.L0) key
+-- the rule that is broken where some sum gets no number, or a limited pool no size
+abbrev pub without_amount_by : Option SumKey → Option (List ℕ) → Option Rule
+without_amount_by (Some sum) pool = Some rule.L0
+without_amount_by None pool = option_map (λ limited. rule.L0) pool
 
 -- a rule on one row, by its name
 abbrev pub row_rule : RowRule → State → Row → Option Rule

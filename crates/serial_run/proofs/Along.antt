@@ -116,7 +116,7 @@ along_steps : (w w' : SerialWorld) (steps : List Step) → StepsTo w steps w'
 along_steps w w' steps h = along_comes (all-come_to w steps w' h)
 
 -- steps that were made for a reason are steps
-anyhow : (such : State → Type 0) (w w' : SerialWorld) (steps : List Step) → StepsWhile such w steps w' → StepsTo w steps w'
+pub anyhow : (such : State → Type 0) (w w' : SerialWorld) (steps : List Step) → StepsWhile such w steps w' → StepsTo w steps w'
 anyhow such w w' [] same = same
 anyhow such w w' (s ∷ steps) h = (tt, h.1, h.2, anyhow such h.1 w' steps h.3)
 

@@ -17,7 +17,7 @@ pub covered : (s : State) (books : Books) → books ≡ s.books → AreBalanced 
     → (k : Part) → part k books.converted + part k books.returned ≤ part k books.granted
 covered s books is balanced k = omega (
   arith,
-  balanced k,
+  balanced.parts k,
   ap (λ (b : Books). part k b.granted) is,
   ap (λ (b : Books). part k b.converted) is,
   ap (λ (b : Books). part k b.returned) is,
@@ -29,7 +29,7 @@ left_held : (s : State) (books : Books) (held : Amounts) → books ≡ s.books �
     → (k : Part) → part k held ≡ all_part k s.held
 left_held s books held is balanced left k = omega (
   arith,
-  balanced k,
+  balanced.parts k,
   left k,
   ap (λ (b : Books). part k b.granted) is,
   ap (λ (b : Books). part k b.converted) is,

@@ -10,3 +10,5 @@ pub mod Beginning
 pub mod Others
 mod StepsMade
 pub mod Tops
+mod Denying
+mod Keeping

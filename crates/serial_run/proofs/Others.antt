@@ -23,9 +23,12 @@ use Rattle.serial_run.specs.Most.{most_requests}
 use Rattle.serial_run.specs.Worlds.{Outlet, Outside}
 use Rattle.serial_run.specs.declared.session.SessionEnd.{SessionEnd}
 use Rattle.serial_run.specs.declared.session.SessionEnd.TheVariants as end
-use Rattle.serial_run.specs.Does.{Carried, Does, DoesOther}
-use Rattle.serial_run.specs.Runs.{Runs, boot_with, seen_with}
+use Rattle.serial_run.specs.Does.{Carried, Does, DoesOther, IsReadyFor, OpensToRows}
+use Rattle.serial_run.specs.Runs.{HasCauseToRefuse, Runs, boot_with, seen_with}
 use Rattle.serial_run.specs.Texts.{RunsText, is_fault}
+use Rattle.start_faults.specs.Starts.{start_status}
+use Rattle.start_faults.specs.declared.fault.StartFault.{StartFault}
+use Rattle.start_faults.specs.declared.fault.StartFault.TheVariants as start
 use Rattle.serial_run.proofs.Tops.{top_text, top_complete, top_cut, top_read_fault, top_write_fault, top_keeper_fault, top_words}
 use Rattle.serial_run.proofs.Tops.{top_not_read, top_still, top_unopened, top_refused, refuses_rose, tells_opening, tells_refused}
 
@@ -229,3 +232,71 @@ does_refused words handed before after status None ran is = tt
 does_refused words handed before after status (Some entries) (inl runs) is = top_refused words handed before after status (Some entries) runs is
 does_refused words handed before after status (Some entries) (inr c) is = λ refused run keeps.
     absurd (false≢true (sym (not_run words c.command handed before after status c.does c.said) ∙ run))
+
+-- ---- another command than a run, where nothing failed
+
+-- words for which the program is ready are not those of a run
+ready_no_run : (said : Option CommandWords) (keeper : Store) → IsReadyFor said keeper
+    → is_some (option_and_then as_run said) ≡ false
+ready_no_run None keeper ready = absurd ready
+ready_no_run (Some (Run run)) keeper ready = absurd ready
+ready_no_run (Some (Make seed count)) keeper ready = refl
+ready_no_run (Some (Drill seed count)) keeper ready = refl
+ready_no_run (Some Check) keeper ready = refl
+
+-- entries that open to rows are not refused
+opens_once : (opening : Opening) (keeper keeper' : Store) → OpensToRows keeper → is_refused opening ≡ true
+    → OpensToNone opening keeper keeper' → ⊥
+opens_once opening keeper keeper' rows refused none =
+    let found : opening_of rows.entries ≡ opening = subst (λ known. IfSome known (λ es. opening_of es ≡ opening)) rows.told
+    (tells_opening opening keeper keeper' none) in
+    false≢true (ap is_refused (sym rows.opens ∙ found) ∙ refused)
+
+-- all was done, or memory was refused, where no other cause can be
+no_fault : (before after : Outside) (status : ℕ) → Cause status before after
+    → ((opening : Opening) → is_refused opening ≡ true → OpensToNone opening before.keeper after.keeper → ⊥)
+    → ¬ (Rose before.sink.failures after.sink.failures) → ¬ (Rose before.keeper.failures after.keeper.failures)
+    → (status ≡ 0) ⊎ (status ≡ 9)
+no_fault before after status (done is) opens writes keeps = inl is
+no_fault before after status (unwritten is rose) opens writes keeps = absurd (writes rose)
+no_fault before after status (unkept is rose) opens writes keeps = absurd (keeps rose)
+no_fault before after status (unopened opening is refused none) opens writes keeps = absurd (opens opening refused none)
+no_fault before after status (out_of_memory is) opens writes keeps = inr is
+
+other_complete : (command : CommandWords) (handed : ℕ) (before after : Outside) (status : ℕ)
+    → DoesOther command handed before after status → IsReadyFor (Some command) before.keeper
+    → ¬ (Rose before.sink.failures after.sink.failures) → ¬ (Rose before.keeper.failures after.keeper.failures)
+    → (status ≡ 0) ⊎ (status ≡ 9)
+other_complete (Run run) handed before after status does ready writes keeps = absurd does
+other_complete (Make seed count) handed before after status does ready writes keeps = by does.tells where
+  by : Tells status (stream_of seed count) before.sink after.sink → (status ≡ 0) ⊎ (status ≡ 9)
+  by (inl (is, takes)) = inl is
+  by (inr (inl (is, breaks))) = absurd (writes breaks.rose)
+  by (inr (inr (is, same))) = inr is
+other_complete (Drill seed count) handed before after status does ready writes keeps =
+    no_fault before after status (cause_of (Drill seed count) handed before after status does)
+    (λ opening. opens_once opening before.keeper after.keeper ready) writes keeps
+other_complete Check handed before after status does ready writes keeps =
+    no_fault before after status (cause_of Check handed before after status does)
+    (λ opening. opens_once opening before.keeper after.keeper ready) writes keeps
+
+pub does_others : (words : List (List ℕ)) (handed : ℕ) (before after : Outside) (status : ℕ)
+    → Does words handed before after status → IsReadyFor (words_of words) before.keeper
+    → ¬ (Rose before.sink.failures after.sink.failures) → ¬ (Rose before.keeper.failures after.keeper.failures)
+    → (status ≡ 0) ⊎ (status ≡ 9)
+does_others words handed before after status (inl (inl ran)) ready writes keeps =
+    absurd (false≢true (sym (ready_no_run (words_of words) before.keeper ready) ∙ ran.read))
+does_others words handed before after status (inl (inr refused)) ready writes keeps =
+    by refused.why refused.cause refused.status_is where
+      no_run : {P : Type 0} → is_run words ≡ true → P
+      no_run read = absurd (false≢true (sym (ready_no_run (words_of words) before.keeper ready) ∙ read))
+
+      by : (why : StartFault) → HasCauseToRefuse why words before.keeper after.keeper → status ≡ start_status why
+          → (status ≡ 0) ⊎ (status ≡ 9)
+      by start.Words cause is = absurd (subst (λ said. IsReadyFor said before.keeper) cause.0 ready)
+      by start.KeeperFailed cause is = no_run cause.0
+      by start.Unopened cause is = no_run cause.0
+      by start.NoMemory cause is = inr is
+does_others words handed before after status (inr c) ready writes keeps =
+    other_complete c.command handed before after status c.does
+    (subst (λ said. IsReadyFor said before.keeper) c.said ready) writes keeps

@@ -1,5 +1,9 @@
 -- What the program does by its words: a run, or another command.
-use Rattle.std.specs.Prelude.{◌≡◌, ◌⊎◌, ℕ, List, Some}
+use Rattle.std.specs.Prelude.{◌≡◌, ◌⊎◌, ℕ, List, Option, Some, None}
+use Rattle.size_values.specs.declared.entry.Entry.{Entry}
+use Rattle.record_keeper.specs.Store.{Store}
+use Rattle.row_machine.specs.machine.State.{State}
+use Rattle.row_machine.specs.opening.Opening.{opened, opening_of}
 use Rattle.http_heads.specs.Messages.{Splits, ended}
 use Rattle.http_heads.specs.declared.request.Request.{Request}
 use Rattle.command_words.specs.RunWords.{words_of}
@@ -50,3 +54,20 @@ pub record Carried (words : List (List ℕ)) (handed : ℕ) (before after : Outs
 -- what the words ask for was done: a run, or another command; or they were not read
 abbrev pub Does : List (List ℕ) → ℕ → Outside → Outside → ℕ → Type 0
 Does words handed before after status = Runs words handed before after status ⊎ Carried words handed before after status
+
+-- ---- another command than a run can be carried out
+
+-- the keeper tells entries that open to rows
+pub record OpensToRows (keeper : Store) : Type 0 where
+  pub entries : List Entry
+  pub told : keeper.contents ≡ Some entries
+  pub state : State
+  pub opens : opening_of entries ≡ opened state
+
+-- The words say another command than a run, and what it opens are entries that open to rows; `make` opens nothing.
+abbrev pub IsReadyFor : Option CommandWords → Store → Type 0
+IsReadyFor None keeper = ⊥
+IsReadyFor (Some (Run run)) keeper = ⊥
+IsReadyFor (Some (Make seed count)) keeper = Unit {0}
+IsReadyFor (Some (Drill seed count)) keeper = OpensToRows keeper
+IsReadyFor (Some Check) keeper = OpensToRows keeper

@@ -5,6 +5,7 @@ pub use Rattle.start_faults.specs.core_rows as core_rows
 pub mod Answers
 pub mod Exchanges
 pub mod Inputs
+pub mod Kept
 pub mod Most
 pub mod Sessions
 pub mod Worlds

@@ -5,6 +5,7 @@
 mod asking;
 mod checking;
 mod drilling;
+mod laws;
 mod making;
 mod pacing;
 mod report;
@@ -17,6 +18,7 @@ mod turn;
 
 pub use checking::check;
 pub use drilling::drill;
+pub use laws::after_each_call;
 pub use making::make;
 pub use report::check_report;
 pub use running::run_main;

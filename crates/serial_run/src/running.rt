@@ -14,7 +14,7 @@ ghost use Rattle.command_words.specs.RunWords.{AreInRange, is_run, now_of, pace_
 ghost use Rattle.command_words.specs.declared.run_words.CommandWords.TheVariants as command_of;
 ghost use Rattle.serial_steps.specs.Steps.{hosted};
 ghost use Rattle.serial_run.specs.Most.{most_requests};
-ghost use Rattle.serial_run.specs.Does.{Does};
+ghost use Rattle.serial_run.specs.Does.{Does, IsReadyFor};
 ghost use Rattle.serial_run.specs.Runs.{Runs, RunsOver, SessionFrom, boot_with, seen_with};
 ghost use Rattle.serial_run.specs.Inputs.{status_of};
 ghost use Rattle.serial_run.specs.Texts.{RunsText, is_fault};
@@ -246,6 +246,13 @@ pub fn run_main<S: Source, K: Sink, R: Keeper, H: Host, C: Clock>(
         → ¬ (Rose (K.failures sink.old) (K.failures sink.new))
         → ¬ (Rose (R.store keeper).failures (R.store result.1).failures) →
         (result.0 ≡ 0) ⊎ (result.0 ≡ 9)) }
+
+    // Another command, entries that open to rows where it opens some, and no fault: all was done, or memory was
+    // refused.
+    ensures others { IsReadyFor (words_of (map (λ w. string_bytes w) words.now)) (R.store keeper)
+        → ¬ (Rose (K.failures sink.old) (K.failures sink.new))
+        → ¬ (Rose (R.store keeper).failures (R.store result.1).failures) →
+        (result.0 ≡ 0) ⊎ (result.0 ≡ 9) }
 
     ensures cut { result.0 ≡ 2 → S.ended source.new ≡ true }
     ensures read_fault { result.0 ≡ 4 → Rose (S.failures source.old) (S.failures source.new) }

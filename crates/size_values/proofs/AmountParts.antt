@@ -27,7 +27,7 @@ part-minus Processes a b = refl
 part-minus Disk a b = refl
 
 -- an excess is a difference that ends at 0
-amount_above-sub : (m n : ℕ) → amount_above m n ≡ m - n
+pub amount_above-sub : (m n : ℕ) → amount_above m n ≡ m - n
 amount_above-sub m n = grind (arith, nat_tests)
 
 pub part-excess : (k : Part) (a b : Amounts) → part k (excess_of a b) ≡ part k a - part k b

@@ -12,6 +12,7 @@ pub mod Form
 pub mod MemorySize
 pub mod Moments
 pub mod Number
+pub mod PoolParts
 pub mod Quad
 pub mod Reading
 pub mod Set

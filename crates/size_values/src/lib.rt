@@ -1,6 +1,6 @@
 //! The small values that every other crate speaks of: texts and lists seen as their contents, want of
 //! memory, rises of fault counts, entries of the store, kinds of objects, the readers of option values,
-//! and the amounts of a project.
+//! the amounts of a project, and bytes on a storage pool.
 #![tactic(auto)]
 
 mod address;
@@ -18,6 +18,7 @@ mod memory;
 mod memory_size;
 mod moment;
 mod number;
+mod pool_part;
 mod rise;
 mod seq;
 mod size;
@@ -37,6 +38,7 @@ pub use kinds::{Action, Deed, Kind, ObjectKind, Power};
 pub use memory::{NoMemory, Or};
 pub use memory_size::{Memory, read_memory};
 pub use moment::{MOMENT_LIMIT, moments_end_with_the_year_9999};
+pub use pool_part::PoolPart;
 pub use rise::Rise;
 pub use seq::Seq;
 pub use size::read_size;

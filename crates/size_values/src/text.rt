@@ -1,4 +1,4 @@
-ghost use Rattle.std.specs.Prelude.{◌≡◌, ◌==◌, [], IfOk, OnOk, OnErr, string_bytes, length};
+ghost use Rattle.std.specs.Prelude.{◌≡◌, ◌==◌, ◌++◌, [], IfOk, OnOk, OnErr, string_bytes, length};
 ghost use Rattle.std.specs.Ordering.{nat_cmp};
 ghost use Rattle.std.specs.Cmp.Lexicographic.{slice_cmp};
 ghost use Rattle.std.specs.Str.{IsUtf8, bytes_eq};
@@ -45,6 +45,15 @@ impl Text {
         ensures { result ≡ string_bytes inner }
     {
         Text { inner }
+    }
+
+    /// Two texts as one, the second behind the first.
+    pub fn joined(alloc: Global, front: &str, rest: &str) -> Result<Text, NoMemory>
+        ensures { IfOk result (λ t. t ≡ front.now ++ rest.now) }
+    {
+        let mut inner = String::from_str(alloc, front)?;
+        inner.push_str(rest)?;
+        Ok(Text { inner })
     }
 
     /// A text of its own with the same bytes.

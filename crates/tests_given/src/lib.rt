@@ -5,4 +5,4 @@ mod rows;
 mod sums;
 
 pub use rows::{Rows, both, config, device, in_order, texts};
-pub use sums::{Sums, claim_sums, project_named, sums_of};
+pub use sums::{Sums, claim_sum_on, claim_sums, project_named, sum_on, sums_of};

@@ -35,6 +35,9 @@ fn no_books() -> Books {
         granted: Amounts::zero(),
         converted: Amounts::zero(),
         returned: Amounts::zero(),
+        pool_granted: 0,
+        pool_converted: 0,
+        pool_returned: 0,
     }
 }
 

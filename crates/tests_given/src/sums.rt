@@ -168,43 +168,59 @@ fn is_root(device: &Device) -> bool {
         && device.get("source").is_none()
 }
 
-/// The size of a device that is a root disk.
-fn root_size(device: &Device) -> u128 {
+/// Whether a device is in this pool; in any, if none is asked for.
+fn is_in(device: &Device, pool: Option<&str>) -> bool {
+    match pool {
+        Some(pool) => device.has("pool", pool),
+        None => true,
+    }
+}
+
+/// The size of a device that is a root disk, in this pool if one is asked for.
+fn root_size(device: &Device, pool: Option<&str>) -> u128 {
     match device.get("size") {
-        Some(size) if is_root(device) => u128::from(read_size(size).unwrap_or(0)),
+        Some(size) if is_root(device) && is_in(device, pool) => {
+            u128::from(read_size(size).unwrap_or(0))
+        }
         _ => 0,
     }
 }
 
 /// The size of the root disk among the own devices of an instance.
-fn own_disk(row: &Instance) -> u128 {
+fn own_disk(row: &Instance, pool: Option<&str>) -> u128 {
     let mut sum = 0u128;
     for place in 0..row.devices.len() {
-        sum = sum.saturating_add(root_size(row.devices.device_at(place)));
+        sum = sum.saturating_add(root_size(row.devices.device_at(place), pool));
     }
     sum
 }
 
 /// The size of the root disk among the devices of a profile, which stands before this place of the
 /// list, that no later layer replaces.
-fn profile_disk(view: &StateRef<'_>, row: &Instance, profile: &Profile, after: usize) -> u128 {
+fn profile_disk(
+    view: &StateRef<'_>,
+    row: &Instance,
+    profile: &Profile,
+    after: usize,
+    pool: Option<&str>,
+) -> u128 {
     let mut sum = 0u128;
     for place in 0..profile.devices.len() {
         if !is_covered(view, row, profile.devices.name_at(place), after) {
-            sum = sum.saturating_add(root_size(profile.devices.device_at(place)));
+            sum = sum.saturating_add(root_size(profile.devices.device_at(place), pool));
         }
     }
     sum
 }
 
-/// The size of the root disk that an instance has in the end.
-fn disk_of(view: &StateRef<'_>, row: &Instance) -> u128 {
+/// The size of the root disk that an instance has in the end, in this pool if one is asked for.
+fn disk_of(view: &StateRef<'_>, row: &Instance, pool: Option<&str>) -> u128 {
     let home = home_of(view, row.project.view());
-    let mut sum = own_disk(row);
+    let mut sum = own_disk(row, pool);
     for (place, name) in row.profiles.view().iter().enumerate() {
         if let Some(profile) = profile_named(view, home, name.view()) {
             let after = place.saturating_add(1);
-            sum = sum.saturating_add(profile_disk(view, row, profile, after));
+            sum = sum.saturating_add(profile_disk(view, row, profile, after, pool));
         }
     }
     sum
@@ -224,7 +240,7 @@ pub fn instance_sums(view: &StateRef<'_>, row: &Instance) -> Sums {
         } else {
             Part::Processes.of(view, row)
         },
-        disk: disk_of(view, row),
+        disk: disk_of(view, row, None),
         networks: 0,
     }
 }
@@ -328,4 +344,51 @@ pub fn sums_of(view: &StateRef<'_>, project: &str) -> Sums {
         .plus(sums_of_claims(view, project))
         .plus(sums_of_volumes(view, project))
         .plus(sums_of_networks(view, project))
+}
+
+// ---- on one pool
+
+/// The size of a volume, if it is in this pool.
+fn volume_sum_on(row: &Volume, pool: &str) -> u128 {
+    if row.pool.view() == pool {
+        volume_sums(row).disk
+    } else {
+        0
+    }
+}
+
+/// What the claim of an operation adds to what its project uses of a pool.
+pub fn claim_sum_on(view: &StateRef<'_>, work: &Task, pool: &str) -> u128 {
+    match &work.claim {
+        Some(Row::Instance(row)) => {
+            let new = disk_of(view, row, Some(pool));
+            match replaced(view, work, row) {
+                Some(old) => new.saturating_sub(disk_of(view, old, Some(pool))),
+                None => new,
+            }
+        }
+        Some(Row::Volume(row)) => volume_sum_on(row, pool),
+        _ => 0,
+    }
+}
+
+/// What a project uses of a pool.
+pub fn sum_on(view: &StateRef<'_>, project: &str, pool: &str) -> u128 {
+    let mut sum = 0u128;
+    for row in view.instances {
+        if row.project.view() == project {
+            sum = sum.saturating_add(disk_of(view, row, Some(pool)));
+        }
+    }
+    for row in view.volumes {
+        if row.project.view() == project {
+            sum = sum.saturating_add(volume_sum_on(row, pool));
+        }
+    }
+    for operation in view.live {
+        if is_claim_in(&operation.work, project) {
+            sum = sum.saturating_add(claim_sum_on(view, &operation.work, pool));
+        }
+    }
+    sum
 }

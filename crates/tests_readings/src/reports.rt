@@ -26,7 +26,8 @@ const NOTHING: &str =
     granted 0 0 0 0 0 0 0\nconverted 0 0 0 0 0 0 0\nreturned 0 0 0 0 0 0 0\nheld 0 0 0 0 0 0 0\n";
 
 fn some_books() -> Books
-    ensures { (k : Part) → part k result.granted ≡ part k result.converted + part k result.returned + 0 }
+    ensures parts { (k : Part) → part k result.granted ≡ part k result.converted + part k result.returned + 0 }
+    ensures pools { result.pool_granted ≡ result.pool_converted + result.pool_returned + 0 }
 {
     Books {
         granted: Amounts {
@@ -56,22 +57,30 @@ fn some_books() -> Books
             processes: 200,
             disk: 10_737_418_240,
         },
+        pool_granted: 10_737_418_240,
+        pool_converted: 10_737_418_240,
+        pool_returned: 0,
     }
 }
 
 fn no_books() -> Books
-    ensures { (k : Part) → part k result.granted ≡ part k result.converted + part k result.returned + 0 }
+    ensures parts { (k : Part) → part k result.granted ≡ part k result.converted + part k result.returned + 0 }
+    ensures pools { result.pool_granted ≡ result.pool_converted + result.pool_returned + 0 }
 {
     Books {
         granted: Amounts::zero(),
         converted: Amounts::zero(),
         returned: Amounts::zero(),
+        pool_granted: 0,
+        pool_converted: 0,
+        pool_returned: 0,
     }
 }
 
 /// Whether this is told of projects and books, where nothing is held.
 fn is_told(alloc: Global, projects: &[Project], books: Books, text: &str) -> bool
-    requires { (k : Part) → part k books.granted ≡ part k books.converted + part k books.returned + 0 }
+    requires parts { (k : Part) → part k books.granted ≡ part k books.converted + part k books.returned + 0 }
+    requires pools { books.pool_granted ≡ books.pool_converted + books.pool_returned + 0 }
 {
     let view = StateRef {
         projects: in_order(projects),

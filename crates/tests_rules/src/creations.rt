@@ -1,23 +1,24 @@
-ghost use Rattle.std.specs.Prelude.{◌+◌, ◌≤◌, ◌^◌, IfOk};
+ghost use Rattle.std.specs.Prelude.{◌≡◌, ◌+◌, ◌<◌, ◌≤◌, ◌^◌, IfOk, length};
 ghost use Rattle.size_values.specs.Amounts.{part};
 ghost use Rattle.size_values.specs.declared.amounts.Part.{Part};
 
 use operations::{OpFault, Operation, Status};
 use plans_tasks::instance_creation;
-use project_limits::Limits;
+use project_limits::{Limits, disk_in};
 use records::{Body, Command, Driver, Origin, Pool, Project, Refusal, Row, Rule, Target, What};
 use row_machine::Task;
-use row_readings::{StateRef, rows_of, usage_of};
+use row_readings::{Footprint, PoolLimits, StateRef, claimed_instance, rows_of, usage_of};
 use rules_conflicts::standing_broken;
 use rules_limits::{
-    InUse, claim_lacks_amount, counts_broken, limited_named, limited_projects, limits_broken,
-    limits_named, needs_usage, project_without_amount, share_broken, usage_before, uses_exceed,
+    Beside, InUse, claim_lacks_amount, counts_broken, limited_named, limited_projects,
+    limits_broken, limits_named, needs_usage, project_without_amount, share_broken, usage_before,
+    uses_exceed,
 };
 use rules_names::names_broken;
 use rules_policy::{claim_forbidden, policy_broken, policy_broken_in};
 use rules_settings::claim_settings_broken;
 use rules_tables::{claim_tables_broken, entry_broken};
-use size_values::{Amounts, NoMemory, ObjectKind, Or, Seq, Text};
+use size_values::{Amounts, NoMemory, ObjectKind, Or, PoolPart, Seq, Text};
 use std::alloc::Global;
 use tests_given::{Rows, both, config, device};
 
@@ -26,7 +27,8 @@ use tests_given::{Rows, both, config, device};
 struct Creation {
     project: &'static str,
     name: &'static str,
-    rooted: bool,
+    /// The size of its root disk in the pool, empty for none; no value where it has no root disk.
+    root: Option<&'static str>,
     next: u64,
     rule: Option<Rule>,
     of: &'static str,
@@ -36,7 +38,7 @@ const CREATIONS: &[Creation] = &[
     Creation {
         project: "web",
         name: "c1",
-        rooted: false,
+        root: None,
         next: 1,
         rule: Some(Rule::N1),
         of: "a project that is missing",
@@ -44,7 +46,7 @@ const CREATIONS: &[Creation] = &[
     Creation {
         project: "default",
         name: "-c1",
-        rooted: false,
+        root: None,
         next: 1,
         rule: Some(Rule::N3),
         of: "a malformed name",
@@ -52,7 +54,7 @@ const CREATIONS: &[Creation] = &[
     Creation {
         project: "default",
         name: "c1",
-        rooted: false,
+        root: None,
         next: 1,
         rule: Some(Rule::V4),
         of: "no root disk",
@@ -60,7 +62,7 @@ const CREATIONS: &[Creation] = &[
     Creation {
         project: "default",
         name: "c1",
-        rooted: true,
+        root: Some(""),
         next: 1,
         rule: None,
         of: "a root disk",
@@ -68,18 +70,46 @@ const CREATIONS: &[Creation] = &[
     Creation {
         project: "full",
         name: "c1",
-        rooted: true,
+        root: Some(""),
         next: 1,
         rule: Some(Rule::L1),
         of: "a project that may have no instances",
     },
     Creation {
+        project: "pooled",
+        name: "c1",
+        root: Some(""),
+        next: 1,
+        rule: Some(Rule::L0),
+        of: "no size on a limited pool",
+    },
+    Creation {
         project: "default",
         name: "c1",
-        rooted: true,
+        root: Some(""),
         next: 1_099_511_627_776,
         rule: Some(Rule::O5),
         of: "no number for its operation",
+    },
+];
+
+/// Creations on a pool that their project limits.
+const POOLED: &[Creation] = &[
+    Creation {
+        project: "pooled",
+        name: "c1",
+        root: Some("1GiB"),
+        next: 1,
+        rule: None,
+        of: "as much as the limit on a pool",
+    },
+    Creation {
+        project: "pooled",
+        name: "c1",
+        root: Some("2GiB"),
+        next: 1,
+        rule: Some(Rule::L9),
+        of: "more than the limit on a pool",
     },
 ];
 
@@ -88,7 +118,7 @@ const CREATIONS: &[Creation] = &[
 enum Judged {
     /// By all rows.
     Wholly,
-    /// By the rows of its project.
+    /// By the rows of its project, apart from its limits on pools.
     InItsProject,
     /// By what it claims.
     Alone,
@@ -105,15 +135,15 @@ const SHARE: Amounts = Amounts {
     disk: 0,
 };
 
-/// A project, with a limit on its instances where one is given.
+/// A project, with a limit where one is given.
 fn add_project(
     alloc: Global,
     projects: &mut Vec<Project>,
     name: &str,
-    limit: &str,
+    limit: (&str, &str),
 ) -> Result<(), NoMemory> {
     let name = Text::from_text(alloc, name)?;
-    let config = config(alloc, &[("limits.instances", limit)])?;
+    let config = config(alloc, &[limit])?;
     projects.push(Project {
         name,
         description: Text::new(alloc),
@@ -136,8 +166,11 @@ fn add_pool(alloc: Global, pools: &mut Vec<Pool>) -> Result<(), NoMemory> {
 }
 
 fn fill(alloc: Global, rows: &mut Rows) -> Result<(), NoMemory> {
-    add_project(alloc, &mut rows.projects, "default", "")?;
-    add_project(alloc, &mut rows.projects, "full", "0")?;
+    let full = ("limits.instances", "0");
+    let pooled = ("limits.disk.pool.p0", "1GiB");
+    add_project(alloc, &mut rows.projects, "default", ("", ""))?;
+    add_project(alloc, &mut rows.projects, "full", full)?;
+    add_project(alloc, &mut rows.projects, "pooled", pooled)?;
     add_pool(alloc, &mut rows.pools)
 }
 
@@ -155,9 +188,14 @@ fn bare_body() -> Body {
     }
 }
 
-/// A body that gives a root disk in the pool, and no profiles.
-fn rooted_body(alloc: Global) -> Result<Body, NoMemory> {
-    let settings = [("type", "disk"), ("path", "/"), ("pool", "p0")];
+/// A body that gives a root disk in the pool, of this size if one is given, and no profiles.
+fn rooted_body(alloc: Global, size: &str) -> Result<Body, NoMemory> {
+    let settings = [
+        ("type", "disk"),
+        ("path", "/"),
+        ("pool", "p0"),
+        ("size", size),
+    ];
     let devices = device(alloc, "root", &settings)?;
     Ok(Body {
         description: None,
@@ -171,11 +209,10 @@ fn rooted_body(alloc: Global) -> Result<Body, NoMemory> {
     })
 }
 
-fn body(alloc: Global, rooted: bool) -> Result<Body, NoMemory> {
-    if rooted {
-        rooted_body(alloc)
-    } else {
-        Ok(bare_body())
+fn body(alloc: Global, root: Option<&str>) -> Result<Body, NoMemory> {
+    match root {
+        Some(size) => rooted_body(alloc, size),
+        None => Ok(bare_body()),
     }
 }
 
@@ -195,7 +232,7 @@ fn command(alloc: Global, case: Creation) -> Result<Command, NoMemory> {
         Text::from_text(alloc, case.project),
         target(alloc, case.name),
     );
-    let ((project, of), body) = both(about, body(alloc, case.rooted))?;
+    let ((project, of), body) = both(about, body(alloc, case.root))?;
     Ok(Command {
         project,
         what: What::Create { of, body },
@@ -233,11 +270,24 @@ fn later_broken(alloc: Global, rows: &Rows) -> Result<(), Or<Refusal>> {
     broken
 }
 
-/// What a project uses of its limits.
-fn in_use(alloc: Global, view: &StateRef<'_>, project: &str) -> Result<InUse, NoMemory> {
+/// What a project uses of its limits, apart from those on pools.
+fn in_use(alloc: Global, view: &StateRef<'_>, project: &str) -> Result<InUse, NoMemory>
+    ensures { IfOk result (λ used. length used.pools ≡ 0) }
+{
     let amounts = usage_of(alloc, view, project)?;
     let networks = rows_of(view.networks, project).len();
-    Ok(InUse { amounts, networks })
+    Ok(InUse {
+        amounts,
+        networks,
+        pools: Seq::new(alloc),
+    })
+}
+
+/// No limits on pools.
+fn no_pools(alloc: Global) -> PoolLimits
+    ensures { length result ≡ 0 }
+{
+    PoolLimits::none(alloc)
 }
 
 /// Settings, and policy and limits of the project of the last claim.
@@ -259,7 +309,7 @@ fn project_broken(alloc: Global, rows: &Rows) -> Result<(), Or<Refusal>> {
     }
     let before = in_use(alloc, &rows.before_last(), project)?;
     let later = in_use(alloc, &after, project)?;
-    uses_exceed(alloc, &limited, &before, &later)
+    uses_exceed(alloc, &limited, &no_pools(alloc), &before, &later)
 }
 
 /// What a project uses, where its share is judged by it.
@@ -277,7 +327,27 @@ fn used_beside(
     usage_of(alloc, view, project)
 }
 
-/// The same by what the last operation claims alone.
+/// The size of the root disk among the own devices of a claimed instance.
+fn claimed_disk(work: &Task) -> u64 {
+    match claimed_instance(work) {
+        Some(row) => disk_in(&row.devices).unwrap_or(0),
+        None => 0,
+    }
+}
+
+/// What a claimed instance asks for, as `SHARE` has it, and on the pool.
+fn asked(alloc: Global, work: &Task) -> Result<Footprint, NoMemory>
+    ensures { IfOk result (λ f. ((k : Part) → part k f.amounts < 2 ^ 80) × (f.on.disk < 2 ^ 80)) }
+{
+    let pool = Text::from_text(alloc, "p0")?;
+    let disk = u128::from(claimed_disk(work));
+    Ok(Footprint {
+        amounts: SHARE,
+        on: PoolPart { pool, disk },
+    })
+}
+
+/// The same by what the last operation claims alone. Nothing else is on its pool.
 fn alone_broken(alloc: Global, rows: &Rows) -> Result<(), Or<Refusal>> {
     let after = rows.view();
     claim_settings_broken(alloc, &after, last_claim(&after))?;
@@ -291,7 +361,14 @@ fn alone_broken(alloc: Global, rows: &Rows) -> Result<(), Or<Refusal>> {
     let limited = limited_named(&after, project, limits);
     claim_lacks_amount(alloc, &after, &limited, work)?;
     let used = used_beside(alloc, &rows.before_last(), project, limits)?;
-    share_broken(alloc, &limited, &used, &SHARE)
+    let used = Beside {
+        amounts: used,
+        on_pool: 0,
+    };
+    let share = asked(alloc, work)?;
+    let broken = share_broken(alloc, &limited, &used, &share);
+    drop(share);
+    broken
 }
 
 /// An operation that waits for its first call.
@@ -391,6 +468,14 @@ fn creations_break_the_first_rule(rt: HostRuntime) {
 #[test]
 fn creations_are_judged_alone(rt: HostRuntime) {
     for case in CREATIONS {
+        assert!(rt; breaks(rt.alloc(), *case, Judged::Alone), "{}", case.of);
+    }
+}
+
+#[test]
+fn pools_are_judged(rt: HostRuntime) {
+    for case in POOLED {
+        assert!(rt; breaks(rt.alloc(), *case, Judged::Wholly), "{}", case.of);
         assert!(rt; breaks(rt.alloc(), *case, Judged::Alone), "{}", case.of);
     }
 }

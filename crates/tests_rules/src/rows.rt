@@ -179,6 +179,9 @@ impl Rows {
                 granted: Amounts::zero(),
                 converted: Amounts::zero(),
                 returned: Amounts::zero(),
+                pool_granted: 0,
+                pool_converted: 0,
+                pool_returned: 0,
             },
             closed: false,
         }

@@ -3,7 +3,7 @@
 
 use crate::chance::Chance;
 use crate::judging::{PROJECTS, mark_of, may_change};
-use crate::server::Server;
+use crate::server::{POOLS, Server};
 use host_model::Report;
 use size_values::{NoMemory, Rise};
 use std::alloc::Global;
@@ -11,6 +11,7 @@ use std::alloc::Global;
 /// What is there before the first event.
 pub(crate) const SETUP: &[&str] = &[
     r#"POST /1.0/storage-pools {"driver":"dir","name":"p0"}"#,
+    r#"POST /1.0/storage-pools {"driver":"dir","name":"p1"}"#,
     r#"POST /1.0/networks {"name":"br0"}"#,
     r#"POST /1.0/projects {"config":{"limits.instances":"6"},"name":"lab"}"#,
     r#"POST /1.0/projects {"config":{"features.profiles":"false"},"name":"off"}"#,
@@ -46,11 +47,13 @@ const REQUESTS: &[&str] = &[
     "DELETE /1.0/instances/$n/snapshots/$x?project=$p",
     r#"PATCH /1.0/projects/$p {"config":{"limits.memory":"$s"}}"#,
     r#"PATCH /1.0/projects/$p {"config":{"limits.disk":"$s"}}"#,
+    r#"PATCH /1.0/projects/$p {"config":{"limits.disk.pool.$q":"$s"}}"#,
+    r#"PATCH /1.0/projects/$p {"config":{"limits.disk.pool.$q":"$s"}}"#,
     r#"PATCH /1.0/projects/$p {"config":{"$l":"$c"}}"#,
     r#"PATCH /1.0/profiles/small?project=$p {"config":{"limits.memory":"$s","limits.processes":"$c"}}"#,
     r#"PUT /1.0/profiles/small?project=$p {"config":{"limits.cpu":"$c"}}"#,
     r#"PATCH /1.0/profiles/default?project=$p {"config":{"limits.cpu":"$c"},"devices":{$d}}"#,
-    r#"POST /1.0/storage-pools/p0/volumes?project=$p {"config":{"size":"$s"},"name":"$n"}"#,
+    r#"POST /1.0/storage-pools/$q/volumes?project=$p {"config":{"size":"$s"},"name":"$n"}"#,
     r#"POST /1.0/storage-pools/p0/volumes?project=$p {"name":"$n","source":{"type":"copy","name":"$n"}}"#,
     r#"PATCH /1.0/storage-pools/p0/volumes/custom/$n?project=$p {"config":{"size":"$s"}}"#,
     "DELETE /1.0/storage-pools/p0/volumes/custom/$n?project=$p",
@@ -68,6 +71,7 @@ const CHANGE: &str =
 /// The texts of the letters.
 const TEXTS: &[(char, &[&str])] = &[
     ('p', &PROJECTS),
+    ('q', &POOLS),
     ('n', &["a", "b", "c", "d", "e", "f", "9"]),
     ('x', &["s0", "s1", "s2", ""]),
     (
@@ -99,6 +103,7 @@ const TEXTS: &[(char, &[&str])] = &[
             "",
             "",
             r#""root":{"path":"/","pool":"p0","size":"1GiB","type":"disk"}"#,
+            r#""root":{"path":"/","pool":"p1","size":"2GiB","type":"disk"}"#,
             r#""root":{"path":"/","pool":"p0","type":"disk"}"#,
             r#""other":{"path":"/","pool":"p0","size":"2GiB","type":"disk"},"root":{"type":"none"}"#,
             r#""eth0":{"network":"br0","type":"nic"}"#,

@@ -1,13 +1,13 @@
 //! What has to stand after each turn.
 
-use crate::server::{LIMITS, Said, Server, Usage};
+use crate::server::{POOLS, Said, Server, Usage};
 use operations::Operation;
-use records::{LimitKeyName, Project};
+use records::Project;
 use reservations::Hold;
 use row_machine::Task;
 use row_readings::StateRef;
 use size_values::{Amounts, read_count, read_size};
-use tests_given::{Sums, claim_sums, project_named, sums_of};
+use tests_given::{Sums, claim_sum_on, claim_sums, project_named, sum_on, sums_of};
 
 /// The projects of a random run.
 pub(crate) const PROJECTS: [&str; 4] = ["default", "lab", "off", "shop"];
@@ -52,26 +52,35 @@ fn share_of(sums: Sums) -> [u128; 7] {
     ]
 }
 
-/// The key of a limit among the settings of a project.
-fn key_of(key: LimitKeyName) -> &'static str {
+/// The keys of limits among the settings of a project.
+const KEYS: [&str; 8] = [
+    "limits.instances",
+    "limits.containers",
+    "limits.virtual-machines",
+    "limits.cpu",
+    "limits.memory",
+    "limits.processes",
+    "limits.disk",
+    "limits.networks",
+];
+
+/// The keys of limits on the pools of random runs.
+const POOL_KEYS: [&str; 2] = ["limits.disk.pool.p0", "limits.disk.pool.p1"];
+
+/// The limit that a project sets.
+fn limit_of(project: &Project, key: &str) -> Option<u64> {
+    let value = project.config.get(key)?;
     match key {
-        LimitKeyName::Instances => "limits.instances",
-        LimitKeyName::Containers => "limits.containers",
-        LimitKeyName::Machines => "limits.virtual-machines",
-        LimitKeyName::Cpu => "limits.cpu",
-        LimitKeyName::Memory => "limits.memory",
-        LimitKeyName::Processes => "limits.processes",
-        LimitKeyName::Disk => "limits.disk",
-        LimitKeyName::Networks => "limits.networks",
+        "limits.memory" | "limits.disk" => read_size(value).ok(),
+        _ => read_count(value, 0, u64::MAX).ok(),
     }
 }
 
-/// The limit that a project sets.
-fn limit_of(project: &Project, key: LimitKeyName) -> Option<u64> {
-    let value = project.config.get(key_of(key))?;
-    match key {
-        LimitKeyName::Memory | LimitKeyName::Disk => read_size(value).ok(),
-        _ => read_count(value, 0, u64::MAX).ok(),
+/// The most that a limit allows.
+fn most_of(limit: Option<u64>) -> u128 {
+    match limit {
+        Some(limit) => u128::from(limit),
+        None => u128::MAX,
     }
 }
 
@@ -81,15 +90,33 @@ fn is_right(project: &Project, sums: Sums, usage: Usage) -> bool {
     let share = share_of(sums);
     let mut is_so = true;
     for place in 0..8 {
-        let (used, limit) = usage[place];
-        let most = match limit {
-            Some(limit) => u128::from(limit),
-            None => u128::MAX,
-        };
+        let (used, limit) = usage.sums[place];
         is_so = is_so
             && used == share.get(place).copied().unwrap_or(sums.networks)
-            && limit == limit_of(project, LIMITS[place])
-            && used <= most;
+            && limit == limit_of(project, KEYS[place])
+            && used <= most_of(limit);
+    }
+    is_so
+}
+
+/// Whether this is what a project uses of the pool at a place, and its limit there, and it is within it. A pool that it
+/// does not limit is not told.
+fn is_right_on(project: &Project, place: usize, sum: u128, usage: Usage) -> bool {
+    match (usage.pools[place], project.config.get(POOL_KEYS[place])) {
+        (Some((used, limit)), Some(value)) => {
+            used == sum && limit == read_size(value).ok() && used <= most_of(limit)
+        }
+        (None, None) => true,
+        _ => false,
+    }
+}
+
+/// Whether all that the server tells of a project is so.
+fn is_all_right(view: &StateRef<'_>, project: &Project, name: &str, usage: Usage) -> bool {
+    let mut is_so = is_right(project, sums_of(view, name), usage);
+    for place in 0..2 {
+        let sum = sum_on(view, name, POOLS[place]);
+        is_so = is_so && is_right_on(project, place, sum, usage);
     }
     is_so
 }
@@ -103,7 +130,7 @@ fn stands(server: &mut Server, name: &str) -> bool {
     drop(line);
     let view = server.view();
     match (project_named(&view, name), usage) {
-        (Some(project), Some(usage)) => is_right(project, sums_of(&view, name), usage),
+        (Some(project), Some(usage)) => is_all_right(&view, project, name, usage),
         _ => false,
     }
 }
@@ -131,6 +158,16 @@ fn held_in(held: &[Hold], place: usize) -> u128 {
     sum
 }
 
+/// Whether all that was ever granted on pools was converted, returned or is held.
+fn pools_balance(view: &StateRef<'_>) -> bool {
+    let books = view.books;
+    let mut sum = books.pool_converted.saturating_add(books.pool_returned);
+    for hold in view.held {
+        sum = sum.saturating_add(hold.part.disk);
+    }
+    books.pool_granted == sum
+}
+
 /// Whether all that was ever granted was converted, returned or is held.
 fn books_balance(view: &StateRef<'_>) -> bool {
     let granted = parts_of(&view.books.granted);
@@ -149,9 +186,24 @@ fn books_balance(view: &StateRef<'_>) -> bool {
 /// by the profiles as they are now. Where it would put none, it holds nothing.
 fn holds_its_share(view: &StateRef<'_>, operation: &Operation<Task>) -> bool {
     match view.held.iter().find(|hold| hold.op == operation.number) {
-        Some(hold) => parts_of(&hold.share) == share_of(claim_sums(view, &operation.work)),
+        Some(hold) => {
+            parts_of(&hold.share) == share_of(claim_sums(view, &operation.work))
+                && holds_its_part(view, hold, &operation.work)
+        }
         None => false,
     }
+}
+
+/// Whether what is held is on the pools of the row that the operation would put, and on no others.
+fn holds_its_part(view: &StateRef<'_>, hold: &Hold, work: &Task) -> bool {
+    let mut all = 0u128;
+    let mut is_so = true;
+    for pool in POOLS {
+        let sum = claim_sum_on(view, work, pool);
+        all = all.saturating_add(sum);
+        is_so = is_so && hold.part.on(pool) == sum;
+    }
+    is_so && hold.part.disk == all
 }
 
 /// Whether the books balance, and each live operation, of which there are not too many, holds its
@@ -165,6 +217,7 @@ fn shares_stand(view: &StateRef<'_>) -> bool {
             .iter()
             .all(|operation| holds_its_share(view, operation))
         && books_balance(view)
+        && pools_balance(view)
 }
 
 /// Whether all stands as it should: what the server tells of each project, and what its operations

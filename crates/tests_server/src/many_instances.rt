@@ -158,7 +158,7 @@ fn are_done<R: Keeper + Drop>(
 /// Whether this is what a project uses.
 fn uses<R: Keeper + Drop>(server: &mut ServerOver<R>, line: &str, parts: [u128; 8]) -> bool {
     match server.usage(line) {
-        Some(usage) => usage.map(|told| told.0) == parts,
+        Some(usage) => usage.sums.map(|told| told.0) == parts,
         None => false,
     }
 }

@@ -13,7 +13,7 @@ const RUNS: u64 = 9;
 const EVENTS: u64 = 250;
 
 /// Calls of the keeper that fail. The first two are the load and the first commit, and the next
-/// twelve those before the first event.
+/// thirteen those before the first event.
 const FAILS: [u64; 12] = [17, 18, 23, 31, 32, 33, 41, 50, 55, 63, 71, 90];
 
 /// The first event after which something does not stand.

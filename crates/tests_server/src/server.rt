@@ -29,20 +29,15 @@ pub(crate) enum Said {
     Other,
 }
 
-/// The limits of a project.
-pub(crate) const LIMITS: [LimitKeyName; 8] = [
-    LimitKeyName::Instances,
-    LimitKeyName::Containers,
-    LimitKeyName::Machines,
-    LimitKeyName::Cpu,
-    LimitKeyName::Memory,
-    LimitKeyName::Processes,
-    LimitKeyName::Disk,
-    LimitKeyName::Networks,
-];
+/// The pools of random runs.
+pub(crate) const POOLS: [&str; 2] = ["p0", "p1"];
 
-/// What a project uses of each of its limits, and that limit.
-pub(crate) type Usage = [(u128, Option<u64>); 8];
+/// What a project uses of each of its limits, and that limit; and the same of these pools, where it limits them.
+#[derive(Clone, Copy)]
+pub(crate) struct Usage {
+    pub(crate) sums: [(u128, Option<u64>); 8],
+    pub(crate) pools: [Option<(u128, Option<u64>)>; 2],
+}
 
 /// A text; an empty one where memory is refused, which no test expects.
 pub(crate) fn text(alloc: Global, of: &str) -> Text {
@@ -77,20 +72,52 @@ pub(crate) fn said_by(answer: Answer) -> Said {
     said
 }
 
-/// What a line tells of a limit; where none does, more than there can be.
-fn line_of(lines: &[UsageLine], key: LimitKeyName) -> (u128, Option<u64>) {
-    match lines.iter().find(|line| line.key == key) {
+/// The place of a limit among those of a project. Those on pools come last.
+fn place_of(key: &LimitKeyName) -> usize {
+    match key {
+        LimitKeyName::Instances => 0,
+        LimitKeyName::Containers => 1,
+        LimitKeyName::Machines => 2,
+        LimitKeyName::Cpu => 3,
+        LimitKeyName::Memory => 4,
+        LimitKeyName::Processes => 5,
+        LimitKeyName::Disk => 6,
+        LimitKeyName::Networks => 7,
+        LimitKeyName::DiskOnPool(_) => 8,
+    }
+}
+
+/// What a line tells of the limit at a place; where none does, more than there can be.
+fn line_of(lines: &[UsageLine], place: usize) -> (u128, Option<u64>) {
+    match lines.iter().find(|line| place_of(&line.key) == place) {
         Some(line) => (line.used, line.limit),
         None => (u128::MAX, None),
     }
+}
+
+fn is_on(key: &LimitKeyName, pool: &str) -> bool {
+    match key {
+        LimitKeyName::DiskOnPool(name) => name.view() == pool,
+        _ => false,
+    }
+}
+
+/// What a line tells of the limit on a pool, where one does.
+fn pool_line_of(lines: &[UsageLine], pool: &str) -> Option<(u128, Option<u64>)> {
+    let line = lines.iter().find(|line| is_on(&line.key, pool))?;
+    Some((line.used, line.limit))
 }
 
 /// What an answer tells of a project, which is let go.
 fn usage_by(answer: Answer) -> Option<Usage> {
     let usage = match &answer {
         Answer::Reply(Reply::One(View::Usage(lines))) => {
-            if lines.len() == 8 {
-                Some(LIMITS.map(|key| line_of(lines.view(), key)))
+            if lines.len() >= 8 {
+                let lines = lines.view();
+                Some(Usage {
+                    sums: [0, 1, 2, 3, 4, 5, 6, 7].map(|place| line_of(lines, place)),
+                    pools: POOLS.map(|pool| pool_line_of(lines, pool)),
+                })
             } else {
                 None
             }

@@ -36,7 +36,7 @@ unfolding
     address_of cidr_of count_of set_of cpu_of expiry_of memory_of size_of boolean_of value_of put without replaced
     keys_fault instance_fault project_fault network_fault pool_fault volume_fault value_fault instance_lines project_lines
     network_lines pool_lines volume_lines listed_form form_of schedule_of fields_of field_of number_of range_of part_of
-    bits_below aliases_of
+    bits_below aliases_of is_object_name
 options_hold = record {
   of_instances = refl;
   bad_of_instances = refl;

@@ -145,6 +145,9 @@ object_options =
     ∷ project "limits.containers" "1" "x"
     ∷ project "limits.cpu" "8" "0-3"
     ∷ project "limits.disk" "1GiB" "1Gib"
+    ∷ project "limits.disk.pool.p0" "1GiB" "1Gib"
+    ∷ project "limits.disk.pool.0" "0" "x"
+    ∷ project "limits.disk.pool.a.b_c" "1" "50%"
     ∷ project "limits.instances" "0" "x"
     ∷ project "limits.memory" "8EB" "50%"
     ∷ project "limits.networks" "1" "x"
@@ -202,6 +205,10 @@ unknown_keys =
     ∷ codes "limits"
     ∷ codes "limits.cpu."
     ∷ codes "limits.cpux"
+    ∷ codes "limits.disk.pool"
+    ∷ codes "limits.disk.pool."
+    ∷ codes "limits.disk.pool.-x"
+    ∷ codes "limits.disk.pool.#"
     ∷ codes "type"
     ∷ []
 
@@ -240,6 +247,11 @@ keys =
     ∷ (codes "user.*", codes "user.*", true)
     ∷ (codes "user.*", codes "user.", false)
     ∷ (codes "user.*", codes "users.a", false)
+    ∷ (codes "pool.#", codes "pool.p0", true)
+    ∷ (codes "pool.#", codes "pool.a.b", true)
+    ∷ (codes "pool.#", codes "pool.", false)
+    ∷ (codes "pool.#", codes "pool._x", false)
+    ∷ (codes "pool.#", codes "pools.x", false)
     ∷ (codes "*", codes "a", true)
     ∷ (codes "*", codes "", false)
     ∷ (codes "", codes "", true)

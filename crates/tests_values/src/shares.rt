@@ -5,7 +5,7 @@ ghost use Rattle.size_values.specs.declared.amounts.Part.{Part};
 
 use crate::given::text_of;
 use reservations::Ledger;
-use size_values::{Amounts, NoMemory};
+use size_values::{Amounts, NoMemory, PoolPart};
 use std::alloc::Global;
 
 fn share(cpu: u32, disk: u64) -> Amounts
@@ -41,11 +41,23 @@ fn hold_three(alloc: Global, ledger: &mut Ledger) -> Result<(), NoMemory>
     requires { ledger.old.greatest < 3 }
 {
     ledger.reserve_one()?;
-    ledger.hold(3, text_of(alloc, "lab"), share(2, 10));
+    let on = PoolPart {
+        pool: text_of(alloc, "p0"),
+        disk: 10,
+    };
+    ledger.hold(3, text_of(alloc, "lab"), share(2, 10), on);
     ledger.reserve_one()?;
-    ledger.hold(5, text_of(alloc, "web"), share(4, 20));
+    let on = PoolPart {
+        pool: text_of(alloc, "p0"),
+        disk: 20,
+    };
+    ledger.hold(5, text_of(alloc, "web"), share(4, 20), on);
     ledger.reserve_one()?;
-    ledger.hold(9, text_of(alloc, "lab"), share(4, 20));
+    let on = PoolPart {
+        pool: text_of(alloc, "p1"),
+        disk: 20,
+    };
+    ledger.hold(9, text_of(alloc, "lab"), share(4, 20), on);
     Ok(())
 }
 
@@ -58,6 +70,10 @@ fn are_held(ledger: &Ledger) -> bool {
     ledger.share_of(5) == Some(share(4, 20))
         && ledger.share_of(4) == None
         && holds(ledger, "lab", 6, 30)
+        && ledger.held_on("lab", "p0") == 10
+        && ledger.held_on("lab", "p1") == 20
+        && ledger.held_on("web", "p0") == 20
+        && ledger.held_on("web", "p1") == 0
         && holds(ledger, "web", 4, 20)
         && ledger.held("la") == Amounts::zero()
 }
@@ -71,6 +87,9 @@ fn are_booked(ledger: &Ledger) -> bool {
         && books.granted.disk == 50
         && books.converted == share(4, 20)
         && books.returned == share(2, 10)
+        && books.pool_granted == 50
+        && books.pool_converted == 20
+        && books.pool_returned == 10
 }
 
 /// Whether three shares are held, and the books are right once one was converted and one returned.

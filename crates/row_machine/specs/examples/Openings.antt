@@ -11,7 +11,7 @@ use Rattle.row_machine.specs.machine.NewRows.{default_profile}
 use Rattle.row_machine.specs.opening.Opening.{Opening, opened, damaged, broken, default_project, first_rows, with_rows}
 use Rattle.row_machine.specs.opening.Opening.{opening_of}
 use Rattle.row_machine.specs.examples.Scenes.{default, root_disk}
-use Rattle.row_machine.specs.examples.Worked.{lab, a, b, setting_of}
+use Rattle.row_machine.specs.examples.Worked.{lab, a, b, root_on, setting_of}
 
 -- ---- rows
 
@@ -200,6 +200,10 @@ pub record OpensByLimits : Type 0 where
   pub l7 : opens (limited (codes "limits.disk") (codes "1MiB") Container []) ≡ broken rule.L7 1 lab
   pub l8 : opens (lab_rows (setting_of (codes "limits.networks") (codes "0")) [] [] ++ network lab (codes "br0") ∷ [])
       ≡ broken rule.L8 1 lab
+  pub l9 : opens (limited (codes "limits.disk.pool.p0") (codes "1MiB") Container []) ≡ broken rule.L9 1 lab
+  pub l0_pool : opens
+      (lab_rows (setting_of (codes "limits.disk.pool.p0") (codes "1GiB")) [] (root_on (codes "p0") [])
+      ++ pool (codes "p0") ∷ instance Container lab a (default ∷ []) [] ∷ []) ≡ broken rule.L0 6 (codes "lab/a")
 
 -- the digits
 abbrev pub digits : List ℕ

@@ -12,6 +12,8 @@ use Rattle.row_machine.specs.Words.what
 use Rattle.row_machine.specs.Words.rule
 use Rattle.row_machine.specs.Words.reply
 use Rattle.row_machine.specs.Words.view
+use Rattle.row_machine.specs.Words.driver
+use Rattle.row_machine.specs.Words.report
 use Rattle.size_values.specs.Amounts.{nothing}
 use Rattle.operations.specs.declared.operation.Operation.{Operation}
 use Rattle.records.specs.declared.rows.Instance.{Instance}
@@ -24,8 +26,11 @@ use Rattle.row_machine.specs.machine.Refusals.{no_details, on_project, on_key_of
 use Rattle.row_machine.specs.machine.Plans.{snapshot_target}
 use Rattle.row_machine.specs.machine.Tasks.{deletion_task}
 use Rattle.row_machine.specs.machine.Operations.{entered}
+use Rattle.row_machine.specs.machine.Step.{well}
 use Rattle.row_machine.specs.machine.Runs.{run}
+use Rattle.row_machine.specs.declared.events.Event.TheVariants as event
 use Rattle.row_machine.specs.facts.Whole.{IsWhole}
+use Rattle.row_machine.specs.machine.Usage.{usage_of, used_on}
 use Rattle.row_machine.specs.machine.Expansions.{expanded_of}
 use Rattle.row_machine.specs.examples.Scenes.{Events, default, named, no_body, ask, make_project, patch_project}
 use Rattle.row_machine.specs.examples.Scenes.{make_pool, root_disk, make_profile, put_profile, put_default}
@@ -196,6 +201,79 @@ pub record LimitChanges : Type 0 where
   pub same : last_answer (one_gibibyte ++ patch_project lab (memory (codes "1GiB"))) ≡ Some (answer.Reply reply.Empty)
   pub lower : last_refusal (one_gibibyte ++ patch_project lab (memory (codes "1023MiB")))
       ≡ Some (over_limit rule.L5 (codes "limits.memory") 1073741824 0 1072693248)
+
+-- ---- limits on pools
+
+-- two instances of 1 GiB each on the pool `p0`, of which the project may use 2 GiB
+abbrev pub two_on_p0 : Events
+two_on_p0 = lab_with (setting_of (codes "limits.disk.pool.p0") (codes "2GiB")) ++ make_instance lab a []
+    ++ make_instance lab b []
+
+-- the limit itself is reached, more is refused, and it does not fall below what is used; a key without a name is none
+pub record PoolLimitIsMost : Type 0 where
+  pub equal : last_started two_on_p0 ≡ Some 2
+  pub above : last_refusal (two_on_p0 ++ make_instance lab c [])
+      ≡ Some (over_limit rule.L9 (codes "limits.disk.pool.p0") 2147483648 1073741824 2147483648)
+  pub lower : last_refusal (two_on_p0 ++ patch_project lab (setting_of (codes "limits.disk.pool.p0") (codes "1GiB")))
+      ≡ Some (over_limit rule.L9 (codes "limits.disk.pool.p0") 2147483648 0 1073741824)
+  pub unnamed : last_refusal (make_project lab (setting_of (codes "limits.disk.pool.") (codes "1GiB")))
+      ≡ Some (record { rule = rule.V1; details = record no_details { key = codes "limits.disk.pool." } })
+
+-- a root disk on this pool, of this size if one is given
+abbrev pub root_on : List ℕ → Settings → NamedDevices
+root_on pool size = (
+  codes "root",
+  (codes "path", codes "/") ∷ (codes "pool", pool) ∷ size ++ (codes "type", codes "disk") ∷ [],
+) ∷ []
+
+-- a size of 1 GiB
+abbrev pub one_gibibyte_of_disk : Settings
+one_gibibyte_of_disk = setting_of (codes "size") (codes "1GiB")
+
+-- an instance in `lab`, which has the limit of this key, with a root disk on `p0` without a size
+abbrev pub without_a_size : List ℕ → Events
+without_a_size key =
+    lab_with (setting_of key (codes "1GiB"))
+    ++ ask lab (what.Create (named kind.Instance a) (record no_body { devices = Some (root_on (codes "p0") []) }))
+
+-- on a limited pool a root disk needs a size, and on another one it does not
+pub record PoolsNeedSizes : Type 0 where
+  pub absent : last_refusal (without_a_size (codes "limits.disk.pool.p0"))
+      ≡ Some (on_key_of rule.L0 (codes "limits.disk.pool.p0") a lab)
+  pub elsewhere : last_started (without_a_size (codes "limits.disk.pool.p1")) ≡ Some 1
+
+-- another pool
+abbrev pub p1 : List ℕ
+p1 = codes "p1"
+
+-- The project may use 1 GiB on the pool `p0`, and this much on `p1`. An instance of 1 GiB stands on `p0`, and a change
+-- moves its root disk to `p1`.
+abbrev pub moving_to : List ℕ → Events
+moving_to limit =
+    lab_with ((codes "limits.disk.pool.p0", codes "1GiB") ∷ (codes "limits.disk.pool.p1", limit) ∷ [])
+    ++ ask default (what.Create (named kind.Pool p1) (record no_body { driver = Some driver.Dir }))
+    ++ make_instance lab a [] ++ work_twice 1
+    ++ ask lab (what.Put (named kind.Instance a)
+    (record no_body { devices = Some (root_on p1 one_gibibyte_of_disk); profiles = Some (default ∷ []) }))
+
+-- and there is room for it
+abbrev pub moving : Events
+moving = moving_to (codes "1GiB")
+
+-- the disk that `lab` uses after all events, and what it uses of `p0` and of `p1`
+abbrev pub disk_after : Events → Option (ℕ × ℕ × ℕ)
+disk_after events = option_map
+    (λ state. ((usage_of state lab).disk, used_on state lab (codes "p0"), used_on state lab p1)) (state_after events)
+
+-- While it is live, a change from pool to pool counts on both, though it asks for no more disk; then on the new pool
+-- alone, or where it failed on the old one alone. Above the limit of the new pool it is refused, though the disk of the
+-- project does not grow.
+pub record MovesHoldBoth : Type 0 where
+  pub live : disk_after moving ≡ Some (1073741824, 1073741824, 1073741824)
+  pub over : disk_after (moving ++ work 2) ≡ Some (1073741824, 0, 1073741824)
+  pub failed : disk_after (moving ++ take ++ (event.Done 2 report.NoMemory 0, well) ∷ []) ≡ Some (1073741824, 1073741824, 0)
+  pub too_much : last_refusal (moving_to (codes "512MiB"))
+      ≡ Some (over_limit rule.L9 (codes "limits.disk.pool.p1") 0 1073741824 536870912)
 
 -- ---- policy
 
@@ -501,6 +579,9 @@ pub record AreWorked : Type 0 where
   pub numbers_are_needed : NumbersAreNeeded
   pub limit_is_most : LimitIsMost
   pub limit_changes : LimitChanges
+  pub pool_limit_is_most : PoolLimitIsMost
+  pub pools_need_sizes : PoolsNeedSizes
+  pub moves_hold_both : MovesHoldBoth
   pub policy_is_of_the_expansion : PolicyIsOfTheExpansion
   pub policy_goes_before_limits : PolicyGoesBeforeLimits
   pub profiles_are_judged : ProfilesAreJudged

@@ -4,7 +4,7 @@ use Rattle.std.specs.Prelude.{None, is_some, IfSome, if◌then◌else◌, codes,
 use Rattle.std.specs.List.{sum_by}
 use Rattle.row_machine.specs.Words.{Each, Distinct, part, Part, Deed, ObjectKind, calls_of, undo_of, name_of, limit_on}
 use Rattle.row_machine.specs.Words.{limits_of, Status, AreKept, are_profiles, Target, Notice, Row, HasGoodKey}
-use Rattle.row_machine.specs.Words.{HasMoments}
+use Rattle.row_machine.specs.Words.{HasMoments, pool_limit}
 use Rattle.row_machine.specs.Words.deed
 use Rattle.row_machine.specs.Words.kind
 use Rattle.row_machine.specs.Words.status
@@ -22,9 +22,9 @@ use Rattle.row_machine.specs.machine.Rows.{volume_names, instance_names, snapsho
 use Rattle.row_machine.specs.machine.Homes.{is_on}
 use Rattle.row_machine.specs.machine.Expansions.{expanded_of}
 use Rattle.row_machine.specs.machine.Claims.{of_live, claimed_instance, claimed_volume, claimed_snapshot}
-use Rattle.row_machine.specs.machine.Claims.{judged_instances, judged_volumes, share_of, project_of_row}
+use Rattle.row_machine.specs.machine.Claims.{judged_instances, judged_volumes, part_of_share, share_of, project_of_row}
 use Rattle.row_machine.specs.machine.Claims.{replaced_instance}
-use Rattle.row_machine.specs.machine.Usage.{used, networks_of}
+use Rattle.row_machine.specs.machine.Usage.{used, used_on, networks_of}
 use Rattle.row_machine.specs.shown.Urls.{target_of}
 use Rattle.row_machine.specs.machine.Holders.{keeps_busy}
 use Rattle.row_machine.specs.machine.NameRules.{is_there}
@@ -182,18 +182,24 @@ pub record IsUnderWay (operation : Operation Task) : Type 0 where
 
 -- ---- 7: shares
 
--- the share of an operation by the rows as they stand
+-- the share of an operation by the rows as they stand, and its part on a pool
 abbrev pub held_by : State → Operation Task → Hold
-held_by state operation =
-    record { op = operation.number; project = project_of_task operation.work; share = share_of state operation.work }
+held_by state operation = record {
+  op = operation.number;
+  project = project_of_task operation.work;
+  share = share_of state operation.work;
+  part = part_of_share state operation.work;
+}
 
 -- ---- 8: limits and policy
 
--- each limit of a project that is set is at least what is used of it, and all that counts for it is countable
+-- each limit of a project that is set, on pools too, is at least what is used of it, and all that counts for it is
+-- countable
 pub record IsWithin (state : State) (project : Project) : Type 0 where
   pub parts : (part : Part)
       → IfSome (limit_on part (limits_of project.config)) (λ limit. used state project.name part ≤ limit)
   pub networks : IfSome (limits_of project.config).networks (λ limit. networks_of state project.name ≤ limit)
+  pub pools : (pool : List ℕ) → IfSome (pool_limit project.config pool) (λ limit. used_on state project.name pool ≤ limit)
   pub instances : Each
       (λ instance. instance.project ≡ project.name → instance_without_amount state project instance ≡ None)
       (judged_instances state)
@@ -217,12 +223,14 @@ pub record AreWithin (state : State) : Type 0 where
 
 -- ---- 9: books
 
--- what was granted was converted or returned or is still held
-abbrev pub AreBalanced : State → Type 0
-AreBalanced state = (a_part : Part)
-    → part a_part state.books.granted
-    ≡ part a_part state.books.converted + part a_part state.books.returned
-    + sum_by (λ hold. part a_part hold.share) state.held
+-- what was granted was converted or returned or is still held, and so was what of it is on pools
+pub record AreBalanced (state : State) : Type 0 where
+  pub parts : (a_part : Part)
+      → part a_part state.books.granted
+      ≡ part a_part state.books.converted + part a_part state.books.returned
+      + sum_by (λ hold. part a_part hold.share) state.held
+  pub pools : state.books.pool_granted
+      ≡ state.books.pool_converted + state.books.pool_returned + sum_by (λ hold. hold.part.disk) state.held
 
 -- ---- 10: sizes, and the numbers of notices
 

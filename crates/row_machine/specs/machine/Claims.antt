@@ -2,7 +2,8 @@
 use Rattle.std.specs.Prelude.{◌++◌, if◌then◌else◌}
 use Rattle.row_machine.specs.Words.{ℕ, List, [], Option, Some, None, option_and_then, filter_map, option_map_or}
 use Rattle.row_machine.specs.Words.{bytes_eq, excess_of, Amounts, Expanded, instance_amounts, volume_amounts, Row}
-use Rattle.row_machine.specs.Words.{Row as row, no_amounts, Volume, Instance, Snapshot}
+use Rattle.row_machine.specs.Words.{Row as row, no_amounts, Volume, Instance, Snapshot, PoolPart, no_part, part_above}
+use Rattle.row_machine.specs.Words.{root_part, sized_part}
 use Rattle.row_machine.specs.Estate.{Task, State, instance_named, expanded_of}
 
 -- the instance, the volume or the snapshot that an operation would put
@@ -49,6 +50,19 @@ amounts_of state (row.Instance instance) = amounts_of_instance state instance
 amounts_of state (row.Volume volume) = amounts_of_volume volume
 amounts_of state other = no_amounts
 
+-- what an instance has on the pool of its root disk
+unfoldable pub part_of_instance : State → Instance → PoolPart
+part_of_instance state instance = root_part (expanded_of state.projects state.profiles instance).devices
+
+abbrev pub part_of_volume : Volume → PoolPart
+part_of_volume volume = sized_part volume.pool volume.config
+
+-- what a row has on a pool
+abbrev pub part_of_row : State → Row → PoolPart
+part_of_row state (row.Instance instance) = part_of_instance state instance
+part_of_row state (row.Volume volume) = part_of_volume volume
+part_of_row state other = no_part
+
 -- the project that a row belongs to; a pool belongs to none, and a project to itself
 abbrev pub project_of_row : Row → List ℕ
 project_of_row (row.Project project) = project.name
@@ -73,3 +87,16 @@ share_over state new (Some old) =
 -- The share of an operation by the rows as they stand: what its claimed row adds to the usage of that row's project.
 unfoldable pub share_of : State → Task → Amounts
 share_of state task = option_map_or (λ new. share_over state new (replaced_instance state task)) task.claim no_amounts
+
+-- what a claimed row has on its pool, above what the replaced instance has there if that is of the same project
+abbrev pub part_over : State → Row → Option Instance → PoolPart
+part_over state new None = part_of_row state new
+part_over state new (Some old) =
+    if bytes_eq old.project (project_of_row new)
+    then part_above (part_of_row state new) (part_of_instance state old)
+    else part_of_row state new
+
+-- the part of that share on a pool: of the one pool on which it can be above nothing, that of the claimed row
+unfoldable pub part_of_share : State → Task → PoolPart
+part_of_share state task =
+    option_map_or (λ new. part_over state new (replaced_instance state task)) task.claim no_part

@@ -5,9 +5,10 @@ use Rattle.row_machine.specs.Words.{option_and_then, option_map_or, option_to_li
 use Rattle.row_machine.specs.Words.{Amounts, Action, Deed, Power, Error, HostCall, undo_of, after_of, OpFault, Status}
 use Rattle.row_machine.specs.Words.{granted_more, converted_more, returned_more, Action as action, Deed as deed}
 use Rattle.row_machine.specs.Words.{Status as status, Row as row, no_amounts, Operation, OpFault as op_fault, Instance}
-use Rattle.row_machine.specs.Words.{RowChange, RowChange as change}
+use Rattle.row_machine.specs.Words.{RowChange, RowChange as change, PoolPart, no_part}
 use Rattle.row_machine.specs.Estate.{breaks_instance, Task, instance_named, snapshot_named, is_power_of}
-use Rattle.row_machine.specs.Readings.{share_of, project_of_row, claimed_instance, applied, removal, snapshots_of}
+use Rattle.row_machine.specs.Readings.{share_of, part_of_share, project_of_row, claimed_instance, applied, removal}
+use Rattle.row_machine.specs.Readings.{snapshots_of}
 use Rattle.operations.specs.OperationTable as kept
 use Rattle.reservations.specs.declared.books.Hold.{Hold}
 use Rattle.row_machine.specs.machine.State.{State}
@@ -22,17 +23,25 @@ is_held_by op hold = hold.op == op
 abbrev pub held_share : State → ℕ → Amounts
 held_share state op = option_map_or (λ hold. hold.share) (find (is_held_by op) state.held) no_amounts
 
+-- the part of it on a pool
+abbrev pub held_on_pool : State → ℕ → PoolPart
+held_on_pool state op = option_map_or (λ hold. hold.part) (find (is_held_by op) state.held) no_part
+
 -- the share is no longer held
 abbrev pub without_share : ℕ → State → State
 without_share op state = record state { held = dropped (is_held_by op) state.held }
 
 -- it became its object's
 abbrev pub converted : ℕ → State → State
-converted op state = record (without_share op state) { books = converted_more (held_share state op) state.books }
+converted op state = record (without_share op state) {
+  books = converted_more (held_share state op) (held_on_pool state op) state.books;
+}
 
 -- it was returned
 abbrev pub returned : ℕ → State → State
-returned op state = record (without_share op state) { books = returned_more (held_share state op) state.books }
+returned op state = record (without_share op state) {
+  books = returned_more (held_share state op) (held_on_pool state op) state.books;
+}
 
 -- ---- entering
 
@@ -50,9 +59,14 @@ unfoldable pub entered : State → Task → ℕ → State
 entered state task moment = record (claiming state task moment) {
   held =
       state.held
-      ++ record { op = state.operations.next; project = project_of_task task; share = share_of state task }
+      ++ record {
+        op = state.operations.next;
+        project = project_of_task task;
+        share = share_of state task;
+        part = part_of_share state task;
+      }
       ∷ [];
-  books = granted_more (share_of state task) state.books;
+  books = granted_more (share_of state task) (part_of_share state task) state.books;
 }
 
 -- ---- going on

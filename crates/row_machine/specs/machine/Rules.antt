@@ -39,7 +39,7 @@ after state nothing moment = state
 after state (changes row_changes) moment = applied state row_changes
 after state (starts task) moment = claiming state task moment
 
--- Settings (V1 to V5), policy (F1 to F7, and F8 of a new snapshot) and limits (L0, then L1 to L8) are judged over the
+-- Settings (V1 to V5), policy (F1 to F7, and F8 of a new snapshot) and limits (L0, then L1 to L9) are judged over the
 -- state after the change, by one definition for all commands.
 abbrev pub after_broken : State → Command → State → List Row → Option Refusal
 after_broken state command later rows = first

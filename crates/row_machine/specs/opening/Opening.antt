@@ -25,7 +25,7 @@ use Rattle.row_machine.specs.machine.SettingRules.{tables_break, scope_of, root_
 use Rattle.row_machine.specs.machine.Expansions.{expanded_of}
 use Rattle.row_machine.specs.machine.PolicyRules.{forbids_profile, forbids_instance}
 use Rattle.row_machine.specs.machine.LimitRules.{instance_without_amount, volume_lacks_amount, part_exceeds}
-use Rattle.row_machine.specs.machine.LimitRules.{networks_exceed}
+use Rattle.row_machine.specs.machine.LimitRules.{networks_exceed, pools_exceed}
 use Rattle.row_machine.specs.machine.TableRules.{row_kinds, too_large}
 use Rattle.row_machine.specs.machine.Kinds.{kind_number, cap_of}
 
@@ -207,11 +207,12 @@ default_missing state =
 abbrev pub row_breaks : State → List Row → (State → Row → Option Rule) → Option Opening
 row_breaks state rows rule = first_of (λ row. option_map (broken_at row) (rule state row)) rows
 
--- a project's usage is above a limit of its own
+-- a project's usage is above a limit of its own, on a pool after all others
 abbrev pub limit_breaks : State → List Row → Option Opening
 limit_breaks state rows = first
     (first_of (λ part. first_of (λ project. at project (part_exceeds state state part project)) state.projects) parts
     ∷ first_of (λ project. at project (networks_exceed state state project)) state.projects
+    ∷ first_of (λ project. at project (pools_exceed state state project)) state.projects
     ∷ []) where
       at : Project → Option Refusal → Option Opening
       at project refusal = option_map (λ refused. broken refused.rule 1 project.name) refusal

@@ -5,7 +5,7 @@ use Rattle.std.specs.List.{filter_map}
 use Rattle.std.specs.Str.{bytes_eq}
 use Rattle.row_machine.specs.Words.{Part, ObjectKind, Stopped, limit_on, parts, limits_of, Status, Pending, Cancelling}
 use Rattle.row_machine.specs.Words.{Success, Failure, Cancelled, kept_at, by_number, LimitKeyName, UsageLine, View}
-use Rattle.row_machine.specs.Words.{Reply, Row, Target, What}
+use Rattle.row_machine.specs.Words.{Reply, Row, Target, What, limited_pools, pool_limit}
 use Rattle.row_machine.specs.Words.part_of
 use Rattle.row_machine.specs.Words.kind
 use Rattle.row_machine.specs.Words.view
@@ -22,7 +22,7 @@ use Rattle.row_machine.specs.machine.State.{State}
 use Rattle.row_machine.specs.machine.Homes.{home_of}
 use Rattle.row_machine.specs.machine.Expansions.{expanded_of}
 use Rattle.row_machine.specs.machine.Claims.{project_of_row}
-use Rattle.row_machine.specs.machine.Usage.{used, networks_of}
+use Rattle.row_machine.specs.machine.Usage.{used, used_on, networks_of}
 use Rattle.row_machine.specs.shown.Urls.{url_of, target_of, sorted}
 use Rattle.row_machine.specs.machine.Holders.{names_profile, profile_uses, instance_uses, volume_uses}
 use Rattle.row_machine.specs.machine.StandingRules.{power_of}
@@ -108,9 +108,21 @@ abbrev pub networks_line : State → Project → UsageLine
 networks_line state project =
     record { key = line.Networks; used = networks_of state project.name; limit = (limits_of project.config).networks }
 
--- the state of a project
+-- what it uses of a pool, with its limit there
+abbrev pub pool_line : State → Project → List ℕ → UsageLine
+pool_line state project pool = record {
+  key = line.DiskOnPool pool;
+  used = used_on state project.name pool;
+  limit = pool_limit project.config pool;
+}
+
+-- the state of a project: a line for each of its sums, one for networks, and one for each pool that it limits
 unfoldable pub usage_view : State → Project → View
-usage_view state project = view.Usage (map (usage_line state project) parts ++ networks_line state project ∷ [])
+usage_view state project =
+    view.Usage
+    (map (usage_line state project) parts
+    ++ networks_line state project
+    ∷ map (pool_line state project) (limited_pools project.config))
 
 -- ---- lists
 

@@ -1,26 +1,22 @@
 use Rattle.std.proofs.Common.{Some, IsSome, sym, ◌∙◌, ap, subst}
-use Rattle.reservations.proofs.LedgerLemmas.{IsSome-held}
 use Rattle.std.specs.List.{find, position}
-use Rattle.std.specs.Option.{option_map}
 use Rattle.plain_lists.proofs.Places.{find-at, dropped-at}
 use Rattle.reservations.specs.declared.books.Hold.{Hold}
 use Rattle.reservations.specs.Holdings.{has_op}
 use Rattle.reservations.proofs.ledger.take_out.Goals as goal
 
 pub index_of-place-requires : goal.index_of-place-requires
-index_of-place-requires c =
-    subst (λ holds. IsSome (find (has_op c.args.op) holds)) (sym c.deref.ensures.value)
-    (IsSome-held (find (has_op c.args.op) c.args.holds.now.items) c.requires)
+index_of-place-requires c = subst (λ holds. IsSome (find (has_op c.args.op) holds)) (sym c.deref.ensures.value) c.requires
 
-pub returns-clause-share : goal.returns-clause-share
-returns-clause-share c =
+pub returns-clause-hold : goal.returns-clause-hold
+returns-clause-hold c =
     let items = c.args.holds.now.items in
     let place = c.index_of-place.ensures.place ∙ ap (position (has_op c.args.op)) c.deref.ensures.value in
-    ap (option_map (λ (h : Hold). h.share)) (find-at (has_op c.args.op) items c.index_of-place.result c.remove-hold.result place)
-    ∙ ap (λ (h : Hold). Some h.share) (sym c.remove-hold.ensures.value)
+    find-at (has_op c.args.op) items c.index_of-place.result c.remove.result place
+    ∙ ap (λ (h : Hold). Some h) (sym c.remove.ensures.value)
 
 pub returns-clause-rest : goal.returns-clause-rest
 returns-clause-rest c =
     let items = c.args.holds.now.items in
     let place = c.index_of-place.ensures.place ∙ ap (position (has_op c.args.op)) c.deref.ensures.value in
-    c.remove-hold.ensures.items ∙ dropped-at (has_op c.args.op) items c.index_of-place.result c.remove-hold.result place
+    c.remove.ensures.items ∙ dropped-at (has_op c.args.op) items c.index_of-place.result c.remove.result place

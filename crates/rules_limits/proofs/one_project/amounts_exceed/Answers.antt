@@ -1,5 +1,4 @@
-use Rattle.std.proofs.Common.{◌≡◌, ℕ, get_or, refl}
-use Rattle.plain_lists.specs.Firsts.{first_of}
+use Rattle.std.proofs.Common.{get_or}
 use Rattle.size_values.specs.declared.amounts.Part.TheVariants as part_of
 use Rattle.project_limits.specs.Admission.{parts}
 use Rattle.rules_refusals.proofs.Saying.{refuses-here, free-next}

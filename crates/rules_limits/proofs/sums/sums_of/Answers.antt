@@ -36,7 +36,7 @@ loop-load-preserved c =
     let loads = c.args.loads.now in
     let projects = c.args.projects.now in
     let i = c.loop-load.load-index in
-    let load : Load = record { project = c.load.inside.project; amounts = c.load.inside.amounts } in
+    let load : Load = record { project = c.load.inside.project; amounts = c.load.inside.amounts; on = c.load.inside.on } in
     let is : load ≡ get_or loads i load = subst (λ l. l ≡ get_or loads i l) (sym c.load.view_is) c.load-item.is in
     elim c.match-place_named.branch [
       | in-Ok w ↦

@@ -1,6 +1,7 @@
 use Rattle.std.proofs.Common.{refl}
 use Rattle.serial_run.proofs.Others.{does_text, does_complete, does_cut, does_read_fault, does_write_fault}
 use Rattle.serial_run.proofs.Others.{does_keeper_fault, does_words, does_not_read, does_still, does_unopened, does_refused}
+use Rattle.serial_run.proofs.Others.{does_others}
 use Rattle.serial_run.proofs.running.run_main.Goals as goal
 
 pub returns-clause-text : goal.returns-clause-text
@@ -35,3 +36,6 @@ returns-clause-unopened g c = does_unopened _ _ _ _ _ c.run.ensures
 
 pub returns-clause-refused : goal.returns-clause-refused
 returns-clause-refused g c = does_refused _ _ _ _ _ _ c.run.ensures refl
+
+pub returns-clause-others : goal.returns-clause-others
+returns-clause-others g c = does_others _ _ _ _ _ c.run.ensures

@@ -11,14 +11,14 @@ invariant_of-self c =
     record {
       fits = subst (FitChanges c.self.inside.log.items) (sym c.hold.ensures.state)
           (fits-held
-          (s.held ++ record { op = s.operations.next - 1; project = c.args.project; share = c.args.share } ∷ [])
-          (granted_more c.args.share s.books)
+          (s.held ++ record { op = s.operations.next - 1; project = c.args.project; share = c.args.share; part = c.args.on } ∷ [])
+          (granted_more c.args.share c.args.on s.books)
           c.self.inside.log.items s c.self.invariant.fits);
       room = omega (arith, c.self.invariant.room, c.hold.ensures.room);
       rises = subst AreRising (sym c.hold.ensures.state) c.self.invariant.rises;
       rose = subst (RoseBefore c.self.inside.log.items) (sym c.hold.ensures.state)
           (rose-held
-          (s.held ++ record { op = s.operations.next - 1; project = c.args.project; share = c.args.share } ∷ [])
-          (granted_more c.args.share s.books)
+          (s.held ++ record { op = s.operations.next - 1; project = c.args.project; share = c.args.share; part = c.args.on } ∷ [])
+          (granted_more c.args.share c.args.on s.books)
           c.self.inside.log.items s c.self.invariant.rose);
     }

@@ -7,8 +7,9 @@ use Rattle.row_machine.specs.machine.State.{State}
 use Rattle.row_machine.specs.machine.Operations.{claiming}
 use Rattle.row_machine.specs.facts.Whole.{IsWhole}
 use Rattle.core_drafts.specs.Steps.{before_changes}
+use Rattle.row_readings.specs.declared.amounts.Footprint.{Footprint}
 use Rattle.rules_limits.specs.Limited.{limits_named}
-use Rattle.row_readings.proofs.Small.{low-share_of}
+use Rattle.row_readings.proofs.Small.{low-share_of, low-part_of_share}
 use Rattle.machine_laws.proofs.WholeKept.{whole-entered}
 use Rattle.core_rows.specs.Asked.{IsAsked}
 use Rattle.core_judging.specs.core_reports.specs.Waiting.{IsSilent}
@@ -16,7 +17,7 @@ use Rattle.core_rows.specs.EstateView.{EstateView}
 use Rattle.core_rows.specs.Planned.{IsToStart}
 use Rattle.core_judging.specs.core_reports.specs.Waiting.{told_by}
 use Rattle.core_judging.specs.core_totals.specs.Totals.{AreTotals}
-use Rattle.core_rows.proofs.KnownTotals.{begin-totals, roomy-totals}
+use Rattle.core_rows.proofs.KnownTotals.{begin-totals, roomy-amounts, roomy-pools}
 use Rattle.core_rows.proofs.Silent.{still-quiet, only-one, none-wait}
 use Rattle.core_rows.proofs.Started.{judged-claim, start-refused, start-accepted, start-made, entered-from, number-left, entered-silent}
 use Rattle.core_rows.proofs.estate.Estate.start.Goals as goal
@@ -61,7 +62,11 @@ judge_claim-judged-requires-clause-limits c =
 
 pub judge_claim-judged-requires-clause-share : goal.judge_claim-judged-requires-clause-share
 judge_claim-judged-requires-clause-share c = λ k.
-    omega (arith, low-share_of c.self.inside.draft.state c.args.work k, ap (part k) c.in-Ok.ensures.share)
+    omega (arith, low-share_of c.self.inside.draft.state c.args.work k, ap (λ (f : Footprint). part k f.amounts) c.in-Ok.ensures.share)
+
+pub judge_claim-judged-requires-clause-part : goal.judge_claim-judged-requires-clause-part
+judge_claim-judged-requires-clause-part c =
+    omega (arith, low-part_of_share c.self.inside.draft.state c.args.work, ap (λ (f : Footprint). f.on.disk) c.in-Ok.ensures.share)
 
 pub commit_start-requires-clause-limit : goal.commit_start-requires-clause-limit
 commit_start-requires-clause-limit c =
@@ -87,13 +92,23 @@ commit_start-requires-clause-room c =
 
 pub commit_start-requires-clause-small : goal.commit_start-requires-clause-small
 commit_start-requires-clause-small c = λ k.
-    omega (arith, low-share_of c.self.inside.draft.state c.args.work k, ap (part k) c.in-Ok.ensures.share)
+    omega (arith, low-share_of c.self.inside.draft.state c.args.work k, ap (λ (f : Footprint). part k f.amounts) c.in-Ok.ensures.share)
 
-pub grow-requires : goal.grow-requires
-grow-requires c =
-    roomy-totals c.self.inside.draft.state c.prepare_start.new.totals c.view-2.result.now c.in-Ok.beginning.share c.self.invariant.whole
-    c.prepare_start.ensures.totals
-    (λ k. omega (arith, low-share_of c.self.inside.draft.state c.args.work k, ap (part k) c.in-Ok.ensures.share))
+pub commit_start-requires-clause-small_part : goal.commit_start-requires-clause-small_part
+commit_start-requires-clause-small_part c =
+    omega (arith, low-part_of_share c.self.inside.draft.state c.args.work, ap (λ (f : Footprint). f.on.disk) c.in-Ok.ensures.share)
+
+pub grow-requires-clause-amounts : goal.grow-requires-clause-amounts
+grow-requires-clause-amounts c =
+    roomy-amounts c.self.inside.draft.state c.prepare_start.new.totals.amounts c.view-2.result.now c.in-Ok.beginning.share.amounts
+    c.self.invariant.whole c.prepare_start.ensures.totals.amounts
+    (λ k. omega (arith, low-share_of c.self.inside.draft.state c.args.work k, ap (λ (f : Footprint). part k f.amounts) c.in-Ok.ensures.share))
+
+pub grow-requires-clause-pools : goal.grow-requires-clause-pools
+grow-requires-clause-pools c =
+    roomy-pools c.self.inside.draft.state c.prepare_start.new.totals.pools c.view-2.result.now c.in-Ok.beginning.share.on.pool
+    c.in-Ok.beginning.share.on.disk c.self.invariant.whole c.prepare_start.ensures.totals.pools
+    (omega (arith, low-part_of_share c.self.inside.draft.state c.args.work, ap (λ (f : Footprint). f.on.disk) c.in-Ok.ensures.share))
 
 pub invariant_of-self-2 : goal.invariant_of-self-2
 invariant_of-self-2 c =

@@ -1,24 +1,25 @@
-use Rattle.std.proofs.Common.{◌≡◌, subst, sym, ap, arith}
-use Rattle.std.specs.Prelude.{IfSome}
-use Rattle.size_values.specs.Amounts.{part}
-use Rattle.row_machine.specs.machine.Usage.{usage_of}
-use Rattle.core_totals.specs.Totals.{AreTotals}
-use Rattle.core_totals.proofs.Few.{few-used}
-use Rattle.core_totals.proofs.Told.{totals-more}
+use Rattle.rules_limits.proofs.Unshared.{shares-beside}
+use Rattle.core_totals.specs.Alone.{all_beside}
 use Rattle.core_totals.proofs.totals.Totals.used_beside.Goals as goal
 
-pub returns-in-Some-clause-few : goal.returns-in-Some-clause-few
-returns-in-Some-clause-few c = λ k.
-    let is : c.in-Some.used ≡ usage_of c.args.view.now c.args.name.now =
-    subst (λ x. IfSome x (λ a. a ≡ usage_of c.args.view.now c.args.name.now)) (sym c.in-Some.ensures) (c.requires.totals.known c.args.name.now) in
-    omega (arith, few-used c.args.view.now c.args.name.now k c.requires.whole, ap (part k) is)
+pub used_beside-requires-clause-totals : goal.used_beside-requires-clause-totals
+used_beside-requires-clause-totals c = c.requires.totals.amounts
+
+pub used_beside-requires-2-clause-totals : goal.used_beside-requires-2-clause-totals
+used_beside-requires-2-clause-totals c = c.requires.totals.pools
+
+pub returns-clause-serves : goal.returns-clause-serves
+returns-clause-serves c =
+    let s = c.args.view.now in
+    let share = c.args.share.now in
+    shares-beside s.projects c.args.name.now (record { amounts = c.in_ok-amounts.amounts; on_pool = c.in_ok-on_pool.on_pool })
+    (all_beside s c.args.name.now share.on.pool) share c.in_ok-amounts.ensures.serves c.in_ok-on_pool.ensures.serves
 
 pub returns-clause-totals : goal.returns-clause-totals
-returns-clause-totals c =
-    subst (AreTotals c.args.view.now) (sym c.in_ok-keep.ensures.ok)
-    (totals-more c.args.view.now c.args.self.now c.args.name.now c.in_ok-used.used c.requires.totals c.in_ok-used.ensures.usage)
+returns-clause-totals c = record { amounts = c.used_beside.ensures.totals; pools = c.used_beside-2.ensures.totals }
 
-pub returns-then-not-needs_usage-clause-serves : goal.returns-then-not-needs_usage-clause-serves
-returns-then-not-needs_usage-clause-serves c =
-    c.needs_usage.ensures c.if-not-needs_usage.true c.args.view.now.projects c.args.name.now c.zero.result
-    (usage_of c.args.view.now c.args.name.now) c.requires.limits
+pub returns-in_err-amounts-clause-totals : goal.returns-in_err-amounts-clause-totals
+returns-in_err-amounts-clause-totals c = record { amounts = c.used_beside.ensures.totals; pools = c.requires.totals.pools }
+
+pub returns-in_err-on_pool-clause-totals : goal.returns-in_err-on_pool-clause-totals
+returns-in_err-on_pool-clause-totals c = record { amounts = c.used_beside.ensures.totals; pools = c.used_beside-2.ensures.totals }
