@@ -99,10 +99,10 @@ fn is_right(project: &Project, sums: Sums, usage: Usage) -> bool {
     is_so
 }
 
-/// Whether this is what a project uses of the pool at a place, and its limit there, and it is within it. A pool that it
+/// Whether this is what a project uses of the pool of this key, and its limit there, and it is within it. A pool that it
 /// does not limit is not told.
-fn is_right_on(project: &Project, place: usize, sum: u128, usage: Usage) -> bool {
-    match (usage.pools[place], project.config.get(POOL_KEYS[place])) {
+fn is_right_on(project: &Project, key: &str, sum: u128, told: Option<(u128, Option<u64>)>) -> bool {
+    match (told, project.config.get(key)) {
         (Some((used, limit)), Some(value)) => {
             used == sum && limit == read_size(value).ok() && used <= most_of(limit)
         }
@@ -116,7 +116,7 @@ fn is_all_right(view: &StateRef<'_>, project: &Project, name: &str, usage: Usage
     let mut is_so = is_right(project, sums_of(view, name), usage);
     for place in 0..2 {
         let sum = sum_on(view, name, POOLS[place]);
-        is_so = is_so && is_right_on(project, place, sum, usage);
+        is_so = is_so && is_right_on(project, POOL_KEYS[place], sum, usage.pools[place]);
     }
     is_so
 }
