@@ -10,8 +10,8 @@ line text = text ++ codes "\r\n"
 -- the codes of the replies
 abbrev pub is_reply_code : ℕ → Bool
 is_reply_code code =
-    code == 200 || code == 202 || code == 400 || code == 403 || code == 404 || code == 405 || code == 409 || code == 500
-    || code == 501 || code == 503
+    code == 200 || code == 202 || code == 400 || code == 403 || code == 404 || code == 405 || code == 409 || code == 412
+    || code == 500 || code == 501 || code == 503
 
 -- the phrase of a code
 abbrev pub phrase_of : ℕ → List ℕ

@@ -74,8 +74,8 @@ VolumeHasAmount project volume = volume.project ≡ project.name
     × (volume_pool_without_size project.config volume.pool volume.config ≡ None)
 
 -- Each part of a project's usage, claims included, is at most the limit on it that the project sets, and so is the
--- number of its networks and what it uses of each pool. Each of its instances and volumes, also those that an operation is about to put, is
--- countable.
+-- number of its networks and what it uses of each pool. Each of its instances and volumes, also those that an
+-- operation is about to put, is countable.
 pub record KeepsLimits (state : State) (project : Project) : Type 0 where
   pub usage : (a_part : Part)
       → IfSome (limit_on a_part (limits_of project.config)) (λ limit. part a_part (usage_of state project.name) ≤ limit)

@@ -4,7 +4,7 @@ use size_values::{NoMemory, Text};
 use std::alloc::Global;
 
 /// The rules by which a request is refused, in the order in which they are judged: of the head of a request (H), its
-/// form (A), names (N), what stands in the way (B), settings (V), the policy of a restricted project (F), its limits
+/// form (A), names (N), what it expects (E), what stands in the way (B), settings (V), the policy of a restricted project (F), its limits
 /// (L), operations (O), the size of tables and rows (C), the store (K) and memory (M).
 #[derive(Clone, Copy, PartialEq, Eq)]
 pub enum Rule {
@@ -16,6 +16,8 @@ pub enum Rule {
     H3,
     /// 400: the body is longer than 1,048,576 bytes.
     H4,
+    /// 403: a web page asks over TCP: the head has a field `Origin` (RFC 6454, section 7).
+    H5,
     /// 404: the path is none of the REST API.
     A1,
     /// 405: the method is not offered at this path.
@@ -32,6 +34,8 @@ pub enum Rule {
     N1,
     /// 404: the object of the path, or the source of a copy, is missing; tells its kind and name.
     N2,
+    /// 412: the object is not as the request expects it (RFC 9110, section 13.1.1); tells kind, name and project.
+    E1,
     /// 400: the new name is malformed; tells kind and name.
     N3,
     /// 409: an object has the new name; tells kind and name.

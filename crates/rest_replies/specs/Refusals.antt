@@ -1,8 +1,8 @@
 -- Refusals as JSON: what each rule is called, how it is answered, and what is told with it.
 use Rattle.std.specs.Prelude.{ℕ, List, [], ◌∷◌, codes, decimal}
 use Rattle.records.specs.declared.refusals.Rule.{Rule}
-use Rattle.records.specs.declared.refusals.Rule.TheVariants.{H1, H2, H3, H4, A1, A2, A3}
-use Rattle.records.specs.declared.refusals.Rule.TheVariants.{A4, A5, A6, N1, N2, N3, N4}
+use Rattle.records.specs.declared.refusals.Rule.TheVariants.{H1, H2, H3, H4, H5, A1, A2, A3}
+use Rattle.records.specs.declared.refusals.Rule.TheVariants.{A4, A5, A6, N1, N2, E1, N3, N4}
 use Rattle.records.specs.declared.refusals.Rule.TheVariants.{N5, B1, B2, B3, B4, B5, B6}
 use Rattle.records.specs.declared.refusals.Rule.TheVariants.{V1, V2, V3, V4, V5, F1, F2, F3}
 use Rattle.records.specs.declared.refusals.Rule.TheVariants.{F4, F5, F6, F7, F8, L0, L1}
@@ -42,6 +42,7 @@ rule_line H1 = line (codes "H1") 400 (codes "head is malformed") []
 rule_line H2 = line (codes "H2") 400 (codes "head is too long") []
 rule_line H3 = line (codes "H3") 400 (codes "length is malformed") []
 rule_line H4 = line (codes "H4") 400 (codes "body is too long") []
+rule_line H5 = line (codes "H5") 403 (codes "origin is not allowed") []
 rule_line A1 = line (codes "A1") 404 (codes "path is unknown") []
 rule_line A2 = line (codes "A2") 405 (codes "method is not offered here") []
 rule_line A3 = line (codes "A3") 400 (codes "query is malformed") (part.Key ∷ [])
@@ -50,6 +51,7 @@ rule_line A5 = line (codes "A5") 400 (codes "field is malformed") (part.Key ∷ 
 rule_line A6 = line (codes "A6") 400 (codes "events need a WebSocket") []
 rule_line N1 = line (codes "N1") 404 (codes "project is missing") (part.Project ∷ [])
 rule_line N2 = line (codes "N2") 404 (codes "object is missing") (part.Kind ∷ part.Name ∷ [])
+rule_line E1 = line (codes "E1") 412 (codes "object has changed") (part.Kind ∷ part.Name ∷ part.Project ∷ [])
 rule_line N3 = line (codes "N3") 400 (codes "name is malformed") (part.Kind ∷ part.Name ∷ [])
 rule_line N4 = line (codes "N4") 409 (codes "name is taken") (part.Kind ∷ part.Name ∷ [])
 rule_line N5 = line (codes "N5") 409 (codes "name is held by an operation") (part.Kind ∷ part.Name ∷ part.Number ∷ [])

@@ -16,6 +16,19 @@ use std::alloc::Global;
 /// their bodies.
 const RULES: &[(Rule, u16, &str)] = &[
     (
+        Rule::H5,
+        403,
+        "{\"error\":\"origin is not allowed\",\"error_code\":403,\
+         \"metadata\":{\"rule\":\"H5\"},\"type\":\"error\"}",
+    ),
+    (
+        Rule::E1,
+        412,
+        "{\"error\":\"object has changed\",\"error_code\":412,\
+         \"metadata\":{\"kind\":\"instance\",\"name\":\"n\",\"project\":\"p\",\"rule\":\"E1\"},\
+         \"type\":\"error\"}",
+    ),
+    (
         Rule::O5,
         409,
         "{\"error\":\"operation numbers are used up\",\"error_code\":409,\
