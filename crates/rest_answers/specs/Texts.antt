@@ -38,6 +38,7 @@ rule_of fault.H1 = rule.H1
 rule_of fault.H2 = rule.H2
 rule_of fault.H3 = rule.H3
 rule_of fault.H4 = rule.H4
+rule_of fault.H5 = rule.H5
 
 -- The bytes that answer a malformed place, after which the connection ends. A refusal tells no id, so the boot word
 -- does not matter.

@@ -39,7 +39,7 @@ pub(crate) fn next_message<S: Source, K: Sink>(
         (outlet K.held K.failures sink.old) buffer.new (inlet S.left S.ended S.failures source.new)
         (outlet K.held K.failures sink.new)) }
 {
-    match awaits_leave(buffer, source) {
+    match awaits_leave(buffer, source, false) {
         Ok(awaited) => match give_leave(sink, awaited) {
             Ok(()) => Ok(read_request(alloc, buffer, source)),
             Err(failed) => Err(failed),

@@ -55,6 +55,7 @@ pub(crate) fn request_of(alloc: Global, line: &str) -> Request {
         last: false,
         expects: false,
         upgrade: None,
+        origin: false,
     }
 }
 
