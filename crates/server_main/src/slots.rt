@@ -128,8 +128,7 @@ impl<
     fn link_job(
         &mut self,
         slot: LockedGate<R, L, T>,
-        source: S,
-        sink: K,
+        link: Link<S, K>,
     ) -> ServerJob<S, K, R, H, C, L, T, O> {
         ServerJob::Link {
             rt: self.rt,
@@ -143,7 +142,8 @@ impl<
         }
     }
 
-    fn turn_away(&mut self, source: S, mut sink: K) {
+    fn turn_away(&mut self, link: Link<S, K>) {
+        let Link { source, mut sink, .. } = link;
         let _told = sink.write(BUSY);
         drop(source);
     }
