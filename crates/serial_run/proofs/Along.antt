@@ -14,6 +14,7 @@ use Rattle.records.specs.declared.replies.Reply.{Reply}
 use Rattle.row_machine.specs.declared.events.Answer.{Answer}
 use Rattle.row_machine.specs.machine.State.{State}
 use Rattle.row_machine.specs.machine.Step.{Outcome}
+use Rattle.rest_json.specs.declared.terms.Terms.{Terms}
 use Rattle.start_faults.specs.core_reports.specs.Stores.{KeepsRecords}
 use Rattle.serial_steps.specs.Steps.{SerialWorld, Step, StepsTo, StepsWhile}
 use Rattle.serial_steps.specs.Counts.{ComesTo, failed_commits, moments_in, keeper_failures_in, host_failures_in}
@@ -149,15 +150,15 @@ along_answered w w' asked moment outcome (Some held) r h = along_held h
 
 -- ---- exchanges
 
-pub along_reply : (boot : ℕ) (w w' : SerialWorld) (e : Exchange) → Comes boot w e w'
+pub along_reply : (terms : Terms) (w w' : SerialWorld) (e : Exchange) → Comes terms w e w'
     → IsAlong w (option_to_list e.moment ++ held_moments e.held)
     (failed_commits e.outcome + held_keeper_failures e.held) (held_host_failures e.held) w'
-along_reply boot w w' e h = along_answered w w' (command_of e.request boot) e.moment e.outcome e.held e.reply h
+along_reply terms w w' e h = along_answered w w' (command_of e.request terms) e.moment e.outcome e.held e.reply h
 
-pub along_leads : {boot : ℕ} {follows : Pace} {w w' : SerialWorld} {e : Exchange} → Leads boot follows w e w'
+pub along_leads : {terms : ℕ} {follows : Pace} {w w' : SerialWorld} {e : Exchange} → Leads terms follows w e w'
     → IsAlong w (moments_at e) (keeper_failures_at e) (host_failures_at e) w'
-along_leads {boot} {follows} {w} {w'} {e} h =
-    along_twice (along_reply boot w h.replied e h.comes) (along_paced follows h.replied w' e.steps h.paced)
+along_leads {terms} {follows} {w} {w'} {e} h =
+    along_twice (along_reply terms w h.replied e h.comes) (along_paced follows h.replied w' e.steps h.paced)
 
 -- an exchange, and then more of them
 pub along_more : {w v w' : SerialWorld} (e : Exchange) (more : List Exchange)

@@ -19,6 +19,7 @@ use Rattle.row_machine.specs.declared.events.Event.TheVariants as event
 use Rattle.row_machine.specs.machine.State.{State}
 use Rattle.row_machine.specs.machine.Accept.{and_then}
 use Rattle.row_machine.specs.machine.Step.{well, no_memory}
+use Rattle.rest_json.specs.declared.terms.Terms.{Terms}
 use Rattle.start_faults.specs.core_rows.specs.Asked.{answered}
 use Rattle.start_faults.specs.core_judging.specs.Judged.{reply_for}
 use Rattle.serial_steps.specs.core_turns.specs.Turns.{IsTurn}
@@ -73,12 +74,12 @@ asked_by_get request is = ap (λ m. bytes_eq m (codes "HEAD")) ((bytes_eq-Decide
     (both (bytes_eq request.method (codes "GET")) (bytes_eq request.target (codes "/1.0")) is).0)
 
 -- who asks for the server was told of it, by the text that stands ready
-pub server-replied : (boot : ℕ) (w w' : SerialWorld) (request : Request) (result : PrintedReply) (moment : ℕ)
-    → command_of request boot ≡ Ok server_asked
+pub server-replied : (terms : Terms) (w w' : SerialWorld) (request : Request) (result : PrintedReply) (moment : ℕ)
+    → command_of request terms ≡ Ok server_asked
     → IsTurn w.serial.state w.store (event.Ask server_asked moment) (answer.Reply (reply.One view.Server)) w'.serial.state w'.store
     → w'.serial.hand ≡ w.serial.hand → w'.host ≡ w.host → Reads w.clock (moment ∷ []) w'.clock → moment < moment_limit
-    → HasText result (reply.One view.Server) boot request → Answers boot w w' request result
-server-replied boot w w' request result moment asked turn hand host read early text = record {
+    → HasText result (reply.One view.Server) terms request → Answers terms w w' request result
+server-replied terms w w' request result moment asked turn hand host read early text = record {
   reply = reply.One view.Server;
   reaches =
       subst (λ asks. Reaches w asks (reply.One view.Server) w') (sym asked)

@@ -16,6 +16,7 @@ use Rattle.row_machine.specs.machine.Accept.{After, and_then}
 use Rattle.row_machine.specs.machine.State.{State}
 use Rattle.row_machine.specs.machine.Step.{Outcome, well, keeper_failed, no_memory}
 use Rattle.row_machine.specs.opening.Records.{records_of}
+use Rattle.rest_json.specs.declared.terms.Terms.{Terms}
 use Rattle.machine_laws.specs.Entries.{entry_changes}
 use Rattle.start_faults.specs.core_reports.specs.Stores.{KeepsRecords, Stores}
 use Rattle.serial_steps.specs.core_turns.specs.Turns.{Turns, changes_by}
@@ -189,29 +190,29 @@ answered_keeps w w' asked moment o None r h told =
     twice asks (none w' asks.told)
 answered_keeps w w' asked moment o (Some held) r h told = held_keeps w w' asked moment o held r h told
 
-comes_keeps : (boot : ℕ) (w : SerialWorld) (e : Exchange) (w' : SerialWorld) → Comes boot w e w' → IsKept w
+comes_keeps : (terms : Terms) (w : SerialWorld) (e : Exchange) (w' : SerialWorld) → Comes terms w e w' → IsKept w
     → Through w (asked_at e.moment e.outcome ++ held_at e.held) w'
-comes_keeps boot w e w' h told =
-    answered_keeps w w' (command_of e.request boot) e.moment e.outcome e.held e.reply h told
+comes_keeps terms w e w' h told =
+    answered_keeps w w' (command_of e.request terms) e.moment e.outcome e.held e.reply h told
 
-leads_keeps : (boot : ℕ) (p : Pace) (w : SerialWorld) (e : Exchange) (w' : SerialWorld) → Leads boot p w e w' → IsKept w
+leads_keeps : (terms : Terms) (p : Pace) (w : SerialWorld) (e : Exchange) (w' : SerialWorld) → Leads terms p w e w' → IsKept w
     → Through w (events_at e) w'
-leads_keeps boot p w e w' h told =
+leads_keeps terms p w e w' h told =
     let came : Through w (asked_at e.moment e.outcome ++ held_at e.held) h.replied =
-    comes_keeps boot w e h.replied h.comes told in
+    comes_keeps terms w e h.replied h.comes told in
     twice came (paced_keeps p h.replied w' e.steps h.paced came.told)
 
-all_keep : (boot : ℕ) (p : Pace) (w : SerialWorld) (es : List Exchange) (w' : SerialWorld) → LeadTo boot p w es w'
+all_keep : (terms : Terms) (p : Pace) (w : SerialWorld) (es : List Exchange) (w' : SerialWorld) → LeadTo terms p w es w'
     → IsKept w → Through w (events_of es) w'
-all_keep boot p w [] w' same told = subst (Through w []) same (none w told)
-all_keep boot p w (e ∷ es) w' h told =
-    let first : Through w (events_at e) h.0 = leads_keeps boot p w e h.0 h.1 told in
-    twice first (all_keep boot p h.0 es w' h.2 first.told)
+all_keep terms p w [] w' same told = subst (Through w []) same (none w told)
+all_keep terms p w (e ∷ es) w' h told =
+    let first : Through w (events_at e) h.0 = leads_keeps terms p w e h.0 h.1 told in
+    twice first (all_keep terms p h.0 es w' h.2 first.told)
 
 -- ---- the laws
 
 pub after_each : AfterEachCall
-after_each boot follows w es w' leads told = (all_keep boot follows w es w' leads told).keeps
+after_each terms follows w es w' leads told = (all_keep terms follows w es w' leads told).keeps
 
 pub after_each_of_one : AfterEachCallOfOne
-after_each_of_one boot w e w' comes told = (comes_keeps boot w e w' comes told).keeps
+after_each_of_one terms w e w' comes told = (comes_keeps terms w e w' comes told).keeps

@@ -19,6 +19,7 @@ use Rattle.row_machine.specs.declared.events.Event.TheVariants as event
 use Rattle.row_machine.specs.machine.State.{State}
 use Rattle.row_machine.specs.machine.Accept.{After, and_then}
 use Rattle.row_machine.specs.machine.Step.{Outcome, well, keeper_failed, no_memory, step}
+use Rattle.rest_json.specs.declared.terms.Terms.{Terms}
 use Rattle.start_faults.specs.core_reports.specs.Stores.{IsCaused, KeepsRecords, Stores}
 use Rattle.start_faults.specs.core_rows.specs.Asked.{answered, changes_of}
 use Rattle.serial_steps.specs.Steps.{SerialWorld, Step, StepsWhile, Finishes, WaitsFor, most_steps}
@@ -119,9 +120,9 @@ abbrev pub IsAnswered : SerialWorld → Result Command Refusal → Option ℕ �
 IsAnswered world asked moment outcome None reply later = Carries world asked moment outcome (answered reply) later
 IsAnswered world asked moment outcome (Some held) reply later = HeldBack world asked moment outcome held reply later
 
--- a request came to its reply; the daemon's boot word is that of the ids of operations
-abbrev pub Comes : ℕ → SerialWorld → Exchange → SerialWorld → Type 0
-Comes boot world exchange later = IsAnswered world (command_of exchange.request boot)
+-- a request came to its reply, read on these terms
+abbrev pub Comes : Terms → SerialWorld → Exchange → SerialWorld → Type 0
+Comes terms world exchange later = IsAnswered world (command_of exchange.request terms)
     exchange.moment exchange.outcome exchange.held exchange.reply later
 
 -- ---- and steps follow
@@ -139,18 +140,18 @@ IsPaced (pace.Steps count) world steps later = MakesUpTo count world steps later
 IsPaced pace.All world steps later = Finishes world steps later × (length steps ≤ most_steps)
 
 -- a request came to its reply, and the steps of the pace followed
-pub record Leads (boot : ℕ) (follows : Pace) (world : SerialWorld) (exchange : Exchange) (later : SerialWorld)
+pub record Leads (terms : Terms) (follows : Pace) (world : SerialWorld) (exchange : Exchange) (later : SerialWorld)
     : Type 0 where
   pub replied : SerialWorld
-  pub comes : Comes boot world exchange replied
+  pub comes : Comes terms world exchange replied
   pub paced : IsPaced follows replied exchange.steps later
 
 -- Exchanges lead from one moment of the server to another: each request comes to its reply, and with the steps after it
 -- to the moment at which the next one is taken.
-abbrev pub LeadTo : ℕ → Pace → SerialWorld → List Exchange → SerialWorld → Type 0
-LeadTo boot follows world [] later = world ≡ later
-LeadTo boot follows world (exchange ∷ more) later =
-    (next : SerialWorld) × Leads boot follows world exchange next × LeadTo boot follows next more later
+abbrev pub LeadTo : Terms → Pace → SerialWorld → List Exchange → SerialWorld → Type 0
+LeadTo terms follows world [] later = world ≡ later
+LeadTo terms follows world (exchange ∷ more) later =
+    (next : SerialWorld) × Leads terms follows world exchange next × LeadTo terms follows next more later
 
 -- ---- what they read, and what failed in them
 
@@ -192,5 +193,5 @@ host_failures_of exchanges = sum_by host_failures_at exchanges
 -- ---- their bytes
 
 -- the bytes of the replies, in their order
-abbrev pub printed_replies : ℕ → List Exchange → List ℕ
-printed_replies boot exchanges = flat_map (λ exchange. printed exchange.reply boot exchange.request) exchanges
+abbrev pub printed_replies : Terms → List Exchange → List ℕ
+printed_replies terms exchanges = flat_map (λ exchange. printed exchange.reply terms exchange.request) exchanges

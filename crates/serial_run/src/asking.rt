@@ -6,6 +6,7 @@ ghost use Rattle.rest_routes.specs.Known.{server_asked};
 ghost use Rattle.rest_answers.specs.Texts.{asks_head};
 ghost use Rattle.record_keeper.specs.Store.{Store};
 ghost use Rattle.serial_steps.specs.Steps.{Hosted, hosted, serial_world};
+ghost use Rattle.rest_json.specs.declared.terms.Terms.{Terms as TermsValue};
 ghost use Rattle.serial_run.specs.Answers.{Answers, Reaches, Shows};
 
 use host_model::Host;
@@ -13,6 +14,7 @@ use http_front::{Clock, Request};
 use record_keeper::Keeper;
 use records::{Command, Reply, What};
 use rest_answers::{PrintedReply, ReplyOrWait, reply_of, reply_or_wait_of, server_answer};
+use rest_json::Terms;
 use rest_routes::Router;
 use serial_steps::{SerialDaemon, server_is_told};
 use size_values::Text;
@@ -76,10 +78,10 @@ pub(crate) fn tell_of_server<C: Clock>(
     clock: &mut C,
     request: &Request,
 ) -> PrintedReply
-    requires asked { (boot : ℕ) → command_of request.now boot ≡ Ok server_asked }
+    requires asked { (terms : TermsValue) → command_of request.now terms ≡ Ok server_asked }
     requires stays { request.now.last ≡ false }
     requires by_get { asks_head request.now ≡ false }
-    ensures { (boot : ℕ) (store : Store) (host : Hosted) → Answers boot
+    ensures { (terms : TermsValue) (store : Store) (host : Hosted) → Answers terms
         (serial_world daemon.now store host (C.readings clock.old))
         (serial_world daemon.now store host (C.readings clock.new))
         request.now result }
@@ -98,15 +100,15 @@ pub(crate) fn reply_to<R: Keeper, H: Host, C: Clock>(
     host: &mut H,
     clock: &mut C,
     request: &Request,
-    boot: u64,
+    terms: Terms,
 ) -> Reply
     ensures { Reaches (serial_world daemon.old (R.store keeper.old) (hosted H.contents H.failures host.old)
         (C.readings clock.old))
-        (command_of request.now boot) result
+        (command_of request.now terms) result
         (serial_world daemon.new (R.store keeper.new) (hosted H.contents H.failures host.new)
         (C.readings clock.new)) }
 {
-    match router.route(alloc, request, boot) {
+    match router.route(alloc, request, terms) {
         Ok(command) => carry_out(alloc, daemon, keeper, host, clock, command),
         Err(why) => refused_reply(why),
     }

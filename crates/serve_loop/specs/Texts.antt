@@ -6,6 +6,7 @@ use Rattle.std.specs.Io.KnownBytes.{Appends}
 use Rattle.http_heads.specs.Messages.{Begins, Ending, TellsLeave, ended, cut, malformed}
 use Rattle.http_heads.specs.declared.request.Request.{Request}
 use Rattle.http_front.specs.Clocks.{Readings}
+use Rattle.rest_json.specs.declared.terms.Terms.{Terms}
 use Rattle.gates.specs.Gates.{Between, Seen}
 use Rattle.gates.specs.History.{Item}
 use Rattle.gates.specs.rest_answers.specs.Links.{Outlet}
@@ -33,23 +34,23 @@ unless_begun None text = text
 
 -- the bytes that are written for an exchange: leave where its request awaits it, and then its reply, or none where a
 -- session begins
-abbrev pub written_at : ℕ → Exchange → List ℕ
-written_at boot exchange = leave_of exchange.request
-    ++ unless_begun (begun_by exchange) (printed exchange.reply boot exchange.request)
+abbrev pub written_at : Terms → Exchange → List ℕ
+written_at terms exchange = leave_of exchange.request
+    ++ unless_begun (begun_by exchange) (printed exchange.reply terms exchange.request)
 
-abbrev pub printed_replies : ℕ → List Exchange → List ℕ
-printed_replies boot exchanges = flat_map (λ exchange. written_at boot exchange) exchanges
+abbrev pub printed_replies : Terms → List Exchange → List ℕ
+printed_replies terms exchanges = flat_map (λ exchange. written_at terms exchange) exchanges
 
 -- what was done at the gate, in its order
 abbrev pub history_of : List Exchange → List Item
 history_of exchanges = flat_map (λ exchange. exchange.history) exchanges
 
 -- requests came to their replies one after the other, between these readings of the clock
-abbrev pub HandlesAll : ℕ → Readings → List Exchange → Readings → Type 0
-HandlesAll boot told [] told' = told' ≡ told
-HandlesAll boot told (exchange ∷ more) told' = (between : Readings)
-    × Handles (asks_of exchange.request boot) told exchange.history exchange.reply between
-    × HandlesAll boot between more told'
+abbrev pub HandlesAll : Terms → Readings → List Exchange → Readings → Type 0
+HandlesAll terms told [] told' = told' ≡ told
+HandlesAll terms told (exchange ∷ more) told' = (between : Readings)
+    × Handles (asks_of exchange.request terms) told exchange.history exchange.reply between
+    × HandlesAll terms between more told'
 
 -- how a link ends that has answered all messages of its input
 abbrev pub end_at : Ending → LinkEnd
@@ -102,7 +103,7 @@ reply_world sink gate clock = record { sink = sink; gate = gate; clock = clock }
 -- connection, or after whose answer a session of events begins, were carried out, each by the turns and idles that it is
 -- due. These are all that was done at the gate, and the clock was read for nothing else. The end is the one that is due,
 -- and the sink took the replies in their order, and leave for each body that awaits it.
-pub record ServesText (boot : ℕ) (text : List ℕ) (messages : List Request) (ending : Ending) (ends : LinkEnd)
+pub record ServesText (terms : Terms) (text : List ℕ) (messages : List Request) (ending : Ending) (ends : LinkEnd)
     (world later : ReplyWorld) : Type 0 where
   pub exchanges : List Exchange
   pub left : List Request
@@ -111,8 +112,8 @@ pub record ServesText (boot : ℕ) (text : List ℕ) (messages : List Request) (
   pub rest : List ℕ
   pub text_is : Begins text (requests_of exchanges) rest
   pub gate : Between (history_of exchanges) world.gate later.gate
-  pub handles : HandlesAll boot world.clock exchanges later.clock
+  pub handles : HandlesAll terms world.clock exchanges later.clock
   pub awaited : Bool
   pub leave_is : LeaveAt ends rest awaited
   pub written : Appends world.sink.held later.sink.held
-      (printed_replies boot exchanges ++ (leave_if awaited ++ text_at ends))
+      (printed_replies terms exchanges ++ (leave_if awaited ++ text_at ends))

@@ -22,6 +22,7 @@ use crate::subscriptions::{Subscription, subscription_of};
 use gates::{Gate, Written, answer_for, write_answer, write_refusal};
 use http_front::{Buffer, Clock, Got, HeadFault, Request, Sink, SinkFailed, Source};
 use records::Reply;
+use rest_json::Terms;
 use rest_routes::Router;
 use size_values::NoMemory;
 use std::alloc::Global;
@@ -87,14 +88,14 @@ fn write_reply<K: Sink, O: Log>(
     sink: &mut K,
     request: &Request,
     reply: Reply,
-    boot: u64,
+    terms: Terms,
     log: &mut O,
 ) -> Turn
-    ensures { WritesReply boot request.now reply result (outlet K.held K.failures sink.old)
+    ensures { WritesReply terms request.now reply result (outlet K.held K.failures sink.old)
         (outlet K.held K.failures sink.new) }
 {
     let rule = rule_in(&reply);
-    let answered = answer_for(alloc, &reply, boot, request);
+    let answered = answer_for(alloc, &reply, terms, request);
     drop(reply);
     let written = write_answer(sink, &answered, request);
     log.answered(Some(request), code_of(&answered, request, written), rule);
@@ -111,16 +112,16 @@ fn answer_request<T: Wait, G: Gate, K: Sink, C: Clock, O: Log>(
     sink: &mut K,
     clock: &mut C,
     request: &Request,
-    boot: u64,
+    terms: Terms,
     log: &mut O,
 ) -> Turn
-    ensures { Replies (command_of request.now boot) boot request.now result (outlet K.held K.failures sink.old)
+    ensures { Replies (command_of request.now terms) terms request.now result (outlet K.held K.failures sink.old)
         (outlet K.held K.failures sink.new) (seen G.contents G.turned G.idled gate.old)
         (seen G.contents G.turned G.idled gate.new) (C.readings clock.old) (C.readings clock.new) }
 {
     log.came();
-    let reply = reply_to(rt, alloc, router, gate, clock, request, boot);
-    write_reply(alloc, sink, request, reply, boot, log)
+    let reply = reply_to(rt, alloc, router, gate, clock, request, terms);
+    write_reply(alloc, sink, request, reply, terms, log)
 }
 
 /// Asks for the project of a subscription. Its session begins, or the refusal is answered.
@@ -132,10 +133,10 @@ fn subscribe<T: Wait, G: Gate, K: Sink, C: Clock, O: Log>(
     clock: &mut C,
     request: &Request,
     wanted: Subscription,
-    boot: u64,
+    terms: Terms,
     log: &mut O,
 ) -> Turn
-    ensures { Looks boot wanted request.now result (outlet K.held K.failures sink.old)
+    ensures { Looks terms wanted request.now result (outlet K.held K.failures sink.old)
         (outlet K.held K.failures sink.new) (seen G.contents G.turned G.idled gate.old)
         (seen G.contents G.turned G.idled gate.new) (C.readings clock.old) (C.readings clock.new) }
 {
@@ -143,7 +144,7 @@ fn subscribe<T: Wait, G: Gate, K: Sink, C: Clock, O: Log>(
     let reply = look_for(rt, alloc, gate, clock, &wanted);
     if is_refusal(&reply) {
         drop(wanted);
-        write_reply(alloc, sink, request, reply, boot, log)
+        write_reply(alloc, sink, request, reply, terms, log)
     } else {
         drop(reply);
         tell_subscribed(log, request);
@@ -160,16 +161,16 @@ fn serve_request<T: Wait, G: Gate, K: Sink, C: Clock, O: Log>(
     sink: &mut K,
     clock: &mut C,
     request: &Request,
-    boot: u64,
+    terms: Terms,
     log: &mut O,
 ) -> Turn
-    ensures { Meets boot request.now result (outlet K.held K.failures sink.old)
+    ensures { Meets terms request.now result (outlet K.held K.failures sink.old)
         (outlet K.held K.failures sink.new) (seen G.contents G.turned G.idled gate.old)
         (seen G.contents G.turned G.idled gate.new) (C.readings clock.old) (C.readings clock.new) }
 {
     match subscription_of(alloc, request) {
-        Ok(Some(wanted)) => { subscribe(rt, alloc, gate, sink, clock, request, wanted, boot, log) }
-        Ok(None) => answer_request(rt, alloc, router, gate, sink, clock, request, boot, log),
+        Ok(Some(wanted)) => { subscribe(rt, alloc, gate, sink, clock, request, wanted, terms, log) }
+        Ok(None) => answer_request(rt, alloc, router, gate, sink, clock, request, terms, log),
         Err(NoMemory) => Turn::Stop(LinkEnd::NoMemory),
     }
 }
@@ -200,17 +201,17 @@ fn follow<T: Wait, G: Gate, K: Sink, C: Clock, O: Log>(
     sink: &mut K,
     clock: &mut C,
     got: Got,
-    boot: u64,
+    terms: Terms,
     log: &mut O,
 ) -> Turn
-    ensures follows { Follows boot got result (outlet K.held K.failures sink.old)
+    ensures follows { Follows terms got result (outlet K.held K.failures sink.old)
         (outlet K.held K.failures sink.new) (seen G.contents G.turned G.idled gate.old)
         (seen G.contents G.turned G.idled gate.new) (C.readings clock.old) (C.readings clock.new) }
     ensures held { buffer.new ≡ buffer.old }
 {
     match got {
         Got::Request(request) => {
-            let next = serve_request(rt, alloc, router, gate, sink, clock, &request, boot, log);
+            let next = serve_request(rt, alloc, router, gate, sink, clock, &request, terms, log);
             buffer.reuse(request);
             next
         }
@@ -234,10 +235,10 @@ fn serve_next<T: Wait, G: Gate, S: Source, K: Sink, C: Clock, O: Log>(
     source: &mut S,
     sink: &mut K,
     clock: &mut C,
-    boot: u64,
+    terms: Terms,
     log: &mut O,
 ) -> Turn
-    ensures { Turns boot result
+    ensures { Turns terms result
         (link_world buffer.old (inlet S.left S.ended S.failures source.old)
         (outlet K.held K.failures sink.old) (seen G.contents G.turned G.idled gate.old)
         (C.readings clock.old))
@@ -246,7 +247,7 @@ fn serve_next<T: Wait, G: Gate, S: Source, K: Sink, C: Clock, O: Log>(
         (C.readings clock.new)) }
 {
     match next_message(alloc, buffer, source, sink) {
-        Ok(got) => follow(rt, alloc, router, buffer, gate, sink, clock, got, boot, log),
+        Ok(got) => follow(rt, alloc, router, buffer, gate, sink, clock, got, terms, log),
         Err(SinkFailed) => Turn::Stop(LinkEnd::WriteFault),
     }
 }
@@ -261,10 +262,10 @@ fn serve<T: Wait, G: Gate, S: Source, K: Sink, C: Clock, O: Log>(
     source: &mut S,
     sink: &mut K,
     clock: &mut C,
-    boot: u64,
+    terms: Terms,
     log: &mut O,
 ) -> LinkEnd
-    ensures { Serving boot
+    ensures { Serving terms
         (link_world buffer.old (inlet S.left S.ended S.failures source.old)
         (outlet K.held K.failures sink.old) (seen G.contents G.turned G.idled gate.old)
         (C.readings clock.old))
@@ -275,7 +276,7 @@ fn serve<T: Wait, G: Gate, S: Source, K: Sink, C: Clock, O: Log>(
 {
     for _ in rt.forever() {
         match serve_next(
-            rt, alloc, router, buffer, gate, source, sink, clock, boot, log,
+            rt, alloc, router, buffer, gate, source, sink, clock, terms, log,
         ) {
             Turn::GoOn => {}
             Turn::Final => return LinkEnd::Ended,
@@ -293,10 +294,10 @@ fn serve_from_empty<T: Wait, G: Gate, S: Source, K: Sink, C: Clock, O: Log>(
     source: &mut S,
     sink: &mut K,
     clock: &mut C,
-    boot: u64,
+    terms: Terms,
     log: &mut O,
 ) -> LinkEnd
-    ensures { ServingFrom boot
+    ensures { ServingFrom terms
         (link_world [] (inlet S.left S.ended S.failures source.old) (outlet K.held K.failures sink.old)
         (seen G.contents G.turned G.idled gate.old) (C.readings clock.old))
         (inlet S.left S.ended S.failures source.new) (outlet K.held K.failures sink.new)
@@ -318,7 +319,7 @@ fn serve_from_empty<T: Wait, G: Gate, S: Source, K: Sink, C: Clock, O: Log>(
         source,
         sink,
         clock,
-        boot,
+        terms,
         log,
     );
     drop(buffer);
@@ -340,10 +341,10 @@ pub fn serve_link<T: Wait, G: Gate, S: Source, K: Sink, C: Clock, O: Log>(
     source: &mut S,
     sink: &mut K,
     clock: &mut C,
-    boot: u64,
+    terms: Terms,
     log: &mut O,
 ) -> LinkEnd
-    ensures serves { ServingFrom boot
+    ensures serves { ServingFrom terms
         (link_world [] (inlet S.left S.ended S.failures source.old) (outlet K.held K.failures sink.old)
         (seen G.contents G.turned G.idled gate.old) (C.readings clock.old))
         (inlet S.left S.ended S.failures source.new) (outlet K.held K.failures sink.new)
@@ -356,7 +357,7 @@ pub fn serve_link<T: Wait, G: Gate, S: Source, K: Sink, C: Clock, O: Log>(
     // Over a source that tells its bytes: a fault, or what these bytes ask.
     ensures text { IfSome (S.left source.old) (λ text. (messages : List RequestValue) (ending : Ending)
         → Splits text messages ending → IsFault result
-        ⊎ ServesText boot text messages ending result
+        ⊎ ServesText terms text messages ending result
         (reply_world (outlet K.held K.failures sink.old) (seen G.contents G.turned G.idled gate.old)
         (C.readings clock.old))
         (reply_world (outlet K.held K.failures sink.new) (seen G.contents G.turned G.idled gate.new)
@@ -368,5 +369,5 @@ pub fn serve_link<T: Wait, G: Gate, S: Source, K: Sink, C: Clock, O: Log>(
     ensures write_fault { result ≡ end.WriteFault
         → Rose (K.failures sink.old) (K.failures sink.new) }
 {
-    serve_from_empty(rt, alloc, gate, source, sink, clock, boot, log)
+    serve_from_empty(rt, alloc, gate, source, sink, clock, terms, log)
 }
