@@ -8,6 +8,7 @@ use Rattle.http_front.specs.declared.reply.Printed.{Printed}
 use Rattle.http_front.specs.Replies.{head_text, reply_text}
 use Rattle.records.specs.declared.replies.Reply.{Reply}
 use Rattle.records.specs.declared.replies.Reply.TheVariants as reply
+use Rattle.rest_json.specs.declared.terms.Terms.{Terms}
 use Rattle.rest_replies.specs.Replies.{NoMemoryIsKnown, printed_of}
 use Rattle.rest_answers.specs.Texts.{HasText, IsUnprinted, asks_head, no_memory_printed, no_memory_text, printed}
 use Rattle.rest_answers.specs.Texts.{text_for, text_to}
@@ -43,32 +44,32 @@ pub no_memory_fits : (last : Bool) (whole : List ℕ) → whole ≡ reply_text (
 no_memory_fits last whole is = body_fits (no_memory_printed last) whole is
 
 -- the reply that takes no memory is the one that tells that there is none
-pub no_memory_is_printed : (boot : ℕ) (request : Request) → NoMemoryIsKnown
-    → no_memory_text request ≡ printed reply.NoMemory boot request
+pub no_memory_is_printed : (terms : Terms) (request : Request) → NoMemoryIsKnown
+    → no_memory_text request ≡ printed reply.NoMemory terms request
 unfolding printed printed_of
-no_memory_is_printed boot request known = ap
+no_memory_is_printed terms request known = ap
     (λ body. text_to request (record { code = 500; body = body; location = []; last = request.last }))
-    (sym (known boot))
+    (sym (known terms))
 
 -- a reply that is not to a HEAD has its body
-pub whole_printed : (r : Reply) (boot : ℕ) (request : Request) → request.last ≡ false → asks_head request ≡ false
-    → printed r boot request ≡ reply_text (printed_of r boot false)
+pub whole_printed : (r : Reply) (terms : Terms) (request : Request) → request.last ≡ false → asks_head request ≡ false
+    → printed r terms request ≡ reply_text (printed_of r terms false)
 unfolding printed
-whole_printed r boot request stays by_get =
-    ap (λ head. if head then head_text (printed_of r boot request.last) else reply_text (printed_of r boot request.last))
+whole_printed r terms request stays by_get =
+    ap (λ head. if head then head_text (printed_of r terms request.last) else reply_text (printed_of r terms request.last))
     by_get
-    ∙ ap (λ last. reply_text (printed_of r boot last)) stays
+    ∙ ap (λ last. reply_text (printed_of r terms last)) stays
 
 -- what is written for an answer is the text of its reply, unless memory for it was refused
-pub text_is : (a : PrintedReply) (r : Reply) (boot : ℕ) (request : Request) → HasText a r boot request
-    → ¬ IsUnprinted a → text_for a request ≡ printed r boot request
-text_is (written.Printed bytes) r boot request has printed = has
-text_is written.NoMemory r boot request has printed = has
-text_is written.Unprinted r boot request has printed = absurd (printed tt)
+pub text_is : (a : PrintedReply) (r : Reply) (terms : Terms) (request : Request) → HasText a r terms request
+    → ¬ IsUnprinted a → text_for a request ≡ printed r terms request
+text_is (written.Printed bytes) r terms request has printed = has
+text_is written.NoMemory r terms request has printed = has
+text_is written.Unprinted r terms request has printed = absurd (printed tt)
 
 -- memory for a reply is refused only to one that takes memory
-pub takes_memory : (a : PrintedReply) (r : Reply) (boot : ℕ) (request : Request) → HasText a r boot request
+pub takes_memory : (a : PrintedReply) (r : Reply) (terms : Terms) (request : Request) → HasText a r terms request
     → IsUnprinted a → r ≢ reply.NoMemory
-takes_memory (written.Printed bytes) r boot request has refused = absurd refused
-takes_memory written.NoMemory r boot request has refused = absurd refused
-takes_memory written.Unprinted r boot request has refused = has
+takes_memory (written.Printed bytes) r terms request has refused = absurd refused
+takes_memory written.NoMemory r terms request has refused = absurd refused
+takes_memory written.Unprinted r terms request has refused = has

@@ -11,6 +11,8 @@ use Rattle.records.specs.declared.refusals.Rule.TheVariants as rule
 use Rattle.records.specs.declared.replies.Reply.{Reply}
 use Rattle.records.specs.declared.replies.Reply.TheVariants as reply
 use Rattle.row_machine.specs.machine.Refusals.{plain_refusal}
+use Rattle.rest_json.specs.declared.terms.Dialect.TheVariants as dialect
+use Rattle.rest_json.specs.declared.terms.Terms.{Terms}
 use Rattle.rest_replies.specs.Replies.{printed_of}
 use Rattle.rest_answers.specs.declared.answers.PrintedReply.{PrintedReply}
 use Rattle.rest_answers.specs.declared.answers.PrintedReply.TheVariants as written
@@ -25,12 +27,12 @@ abbrev pub text_to : Request → Printed → List ℕ
 text_to request printed = if asks_head request then head_text printed else reply_text printed
 
 -- the bytes of the reply to a request, which says where the connection ends after it
-unfoldable pub printed : Reply → ℕ → Request → List ℕ
-printed reply boot request = text_to request (printed_of reply boot request.last)
+unfoldable pub printed : Reply → Terms → Request → List ℕ
+printed reply terms request = text_to request (printed_of reply terms request.last)
 
 -- all bytes of a reply, with its body
-unfoldable pub whole_text : Reply → ℕ → Bool → List ℕ
-whole_text reply boot last = reply_text (printed_of reply boot last)
+unfoldable pub whole_text : Reply → Terms → Bool → List ℕ
+whole_text reply terms last = reply_text (printed_of reply terms last)
 
 -- the rule that a malformed place breaks
 abbrev pub rule_of : HeadFault → Rule
@@ -39,10 +41,14 @@ rule_of fault.H2 = rule.H2
 rule_of fault.H3 = rule.H3
 rule_of fault.H4 = rule.H4
 
--- The bytes that answer a malformed place, after which the connection ends. A refusal tells no id, so the boot word
--- does not matter.
+-- no boot word, in the plain dialect
+abbrev pub no_terms : Terms
+no_terms = record { boot = 0; dialect = dialect.Plain; refuses_origin = false }
+
+-- The bytes that answer a malformed place, after which the connection ends. Such a refusal tells no id and no part, so
+-- the terms do not matter.
 abbrev pub malformed_text : HeadFault → List ℕ
-malformed_text fault = whole_text (reply.Refused (plain_refusal (rule_of fault))) 0 true
+malformed_text fault = whole_text (reply.Refused (plain_refusal (rule_of fault))) no_terms true
 
 -- the reply that takes no memory
 abbrev pub no_memory_printed : Bool → Printed
@@ -54,10 +60,10 @@ no_memory_text request = text_to request (no_memory_printed request.last)
 
 -- What is to be written is the text of the reply, unless memory for it was refused. The reply that tells of memory
 -- refused takes none, and is always written.
-abbrev pub HasText : PrintedReply → Reply → ℕ → Request → Type 0
-HasText (written.Printed bytes) a_reply boot request = bytes ≡ printed a_reply boot request
-HasText written.NoMemory a_reply boot request = no_memory_text request ≡ printed a_reply boot request
-HasText written.Unprinted a_reply boot request = a_reply ≢ reply.NoMemory
+abbrev pub HasText : PrintedReply → Reply → Terms → Request → Type 0
+HasText (written.Printed bytes) a_reply terms request = bytes ≡ printed a_reply terms request
+HasText written.NoMemory a_reply terms request = no_memory_text request ≡ printed a_reply terms request
+HasText written.Unprinted a_reply terms request = a_reply ≢ reply.NoMemory
 
 -- the bytes that are written for an answer
 abbrev pub text_for : PrintedReply → Request → List ℕ

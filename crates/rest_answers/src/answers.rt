@@ -1,5 +1,5 @@
 //! What is written for a reply.
-ghost use Rattle.std.specs.Prelude.{◌≡◌, ℕ, true, false, IfOk, IsTrue};
+ghost use Rattle.std.specs.Prelude.{◌≡◌, true, false, IfOk, IsTrue};
 ghost use Rattle.http_heads.specs.declared.request.Request.{Request as RequestValue};
 ghost use Rattle.http_front.specs.Replies.{head_text, is_reply_code};
 ghost use Rattle.records.specs.declared.replies.Reply.TheVariants as reply;
@@ -7,12 +7,12 @@ ghost use Rattle.records.specs.declared.replies.View.TheVariants as view;
 ghost use Rattle.row_machine.specs.machine.Refusals.{plain_refusal};
 ghost use Rattle.rest_replies.specs.Replies.{printed_of};
 ghost use Rattle.rest_answers.specs.Texts.{HasText, IsUnprinted, asks_head, malformed_text, no_memory_printed};
-ghost use Rattle.rest_answers.specs.Texts.{no_memory_text, printed, rule_of, whole_text};
+ghost use Rattle.rest_answers.specs.Texts.{no_memory_text, no_terms, printed, rule_of, whole_text};
 
 use crate::reply_text::ReplyText;
 use http_front::{HeadFault, Printed, Request, no_memory_reply, reply_bytes};
 use records::{Refusal, Reply, Rule};
-use rest_replies::{known_reply, no_memory_is_known, print, server_text};
+use rest_replies::{Dialect, Terms, known_reply, no_memory_is_known, print, server_text};
 use rules_refusals::no_details;
 use size_values::{NoMemory, Seq};
 use std::alloc::Global;
@@ -37,12 +37,12 @@ pub(crate) fn asks_head(request: &Request) -> bool
     request.method.view() == "HEAD"
 }
 
-/// All bytes of a reply. The boot word is that of the ids of operations.
+/// All bytes of a reply.
 #[tactic(auto, unfolding(crate::specs::Texts::whole_text))]
-fn whole_text(alloc: Global, reply: &Reply, boot: u64, last: bool) -> Result<Seq<u8>, NoMemory>
-    ensures { IfOk result (λ bytes. bytes ≡ whole_text reply.now boot last) }
+fn whole_text(alloc: Global, reply: &Reply, terms: Terms, last: bool) -> Result<Seq<u8>, NoMemory>
+    ensures { IfOk result (λ bytes. bytes ≡ whole_text reply.now terms last) }
 {
-    let printed = print(alloc, reply, boot, last)?;
+    let printed = print(alloc, reply, terms, last)?;
     reply_bytes(alloc, &printed)
 }
 
@@ -61,12 +61,12 @@ fn head_text(alloc: Global, printed: &Printed) -> Result<Seq<u8>, NoMemory>
 fn made_head(
     alloc: Global,
     reply: &Reply,
-    boot: u64,
+    terms: Terms,
     request: &Request,
 ) -> Result<Seq<u8>, NoMemory>
-    ensures { IfOk result (λ bytes. bytes ≡ head_text (printed_of reply.now boot request.now.last)) }
+    ensures { IfOk result (λ bytes. bytes ≡ head_text (printed_of reply.now terms request.now.last)) }
 {
-    let printed = print(alloc, reply, boot, request.last)?;
+    let printed = print(alloc, reply, terms, request.last)?;
     head_text(alloc, &printed)
 }
 
@@ -75,31 +75,31 @@ fn made_head(
 fn text_of(
     alloc: Global,
     reply: &Reply,
-    boot: u64,
+    terms: Terms,
     request: &Request,
 ) -> Result<ReplyText, NoMemory>
-    ensures { IfOk result (λ bytes. bytes ≡ printed reply.now boot request.now) }
+    ensures { IfOk result (λ bytes. bytes ≡ printed reply.now terms request.now) }
 {
     if asks_head(request) {
-        return Ok(ReplyText::made(made_head(alloc, reply, boot, request)?));
+        return Ok(ReplyText::made(made_head(alloc, reply, terms, request)?));
     }
-    match known_reply(reply, request.last) {
+    match known_reply(reply, terms, request.last) {
         Some(text) => Ok(ReplyText::ready(text)),
-        None => Ok(ReplyText::made(whole_text(alloc, reply, boot, request.last)?)),
+        None => Ok(ReplyText::made(whole_text(alloc, reply, terms, request.last)?)),
     }
 }
 
 /// What is to be written for the reply to a request, which says whether the connection ends after it: for HEAD the
-/// head of the reply alone (RFC 9110, section 9.3.2). The boot word is that of the ids of operations.
-pub fn answer_for(alloc: Global, reply: &Reply, boot: u64, request: &Request) -> PrintedReply
-    ensures { HasText result reply.now boot request.now }
+/// head of the reply alone (RFC 9110, section 9.3.2).
+pub fn answer_for(alloc: Global, reply: &Reply, terms: Terms, request: &Request) -> PrintedReply
+    ensures { HasText result reply.now terms request.now }
 {
     match reply {
         Reply::NoMemory => {
             no_memory_is_known();
             PrintedReply::NoMemory
         }
-        _ => match text_of(alloc, reply, boot, request) {
+        _ => match text_of(alloc, reply, terms, request) {
             Ok(bytes) => PrintedReply::Printed(bytes),
             Err(NoMemory) => PrintedReply::Unprinted,
         },
@@ -131,12 +131,12 @@ pub fn no_memory_text(request: &Request) -> &'static [u8]
 
 /// What is to be written for who asks for the server by GET, where the connection stays open after it. It takes no
 /// memory.
-pub fn server_answer() -> PrintedReply
-    ensures text { (boot : ℕ) (request : RequestValue) → request.last ≡ false → asks_head request ≡ false
-        → HasText result (reply.One view.Server) boot request }
+pub fn server_answer(terms: Terms) -> PrintedReply
+    ensures text { (request : RequestValue) → request.last ≡ false → asks_head request ≡ false
+        → HasText result (reply.One view.Server) terms request }
     ensures printed { ¬ (IsUnprinted result) }
 {
-    PrintedReply::Printed(ReplyText::ready(server_text()))
+    PrintedReply::Printed(ReplyText::ready(server_text(terms)))
 }
 
 /// The rule that a malformed place breaks.
@@ -161,13 +161,24 @@ fn refusal_of(alloc: Global, fault: HeadFault) -> Refusal
     }
 }
 
+/// No boot word, in the plain dialect.
+fn no_terms() -> Terms
+    ensures { result ≡ no_terms }
+{
+    Terms {
+        boot: 0,
+        dialect: Dialect::Plain,
+        refuses_origin: false,
+    }
+}
+
 /// The bytes that answer a place in which no request can begin: its rule, and that the connection
-/// ends (RFC 9112, section 9.6). A refusal tells no id, so any boot word serves.
+/// ends (RFC 9112, section 9.6). Such a refusal tells no id and no part, so any terms serve.
 pub fn print_malformed(alloc: Global, fault: HeadFault) -> Result<Seq<u8>, NoMemory>
     ensures { IfOk result (λ bytes. bytes ≡ malformed_text fault) }
 {
     let reply = Reply::Refused(refusal_of(alloc, fault));
-    let text = whole_text(alloc, &reply, 0, true);
+    let text = whole_text(alloc, &reply, no_terms(), true);
     drop(reply);
     text
 }

@@ -16,6 +16,7 @@ use Rattle.records.specs.declared.replies.View.{View}
 use Rattle.records.specs.declared.replies.View.TheVariants as shown
 use Rattle.serde_json.specs.Data.{Data, boolean, string, number, negative, object, Members, no_members, put}
 use Rattle.row_machine.specs.machine.StandingRules.{power_text}
+use Rattle.rest_json.specs.declared.terms.Terms.{Terms}
 use Rattle.rest_json.specs.Words.{power_code, instance_kind, driver_text, limit_name}
 use Rattle.rest_json.specs.Moments.{moment_text}
 use Rattle.rest_json.specs.Objects.{object_of, list_of, whole}
@@ -155,15 +156,15 @@ unfoldable pub usage_data : List UsageLine → Data
 usage_data lines = object_of ((codes "resources", lines_data lines) ∷ [])
 
 -- an object of any kind
-abbrev pub view_data : ℕ → View → Data
-view_data boot shown.Server = server_data
-view_data boot (shown.Project project used) = project_data project used
-view_data boot (shown.Profile profile used) = profile_data profile used
-view_data boot (shown.Network network used) = network_data network used
-view_data boot (shown.Pool pool used) = pool_data pool used
-view_data boot (shown.Volume volume used) = volume_data volume used
-view_data boot (shown.Instance instance config devices power) = instance_data instance config devices power
-view_data boot (shown.Snapshot snapshot) = snapshot_data snapshot
-view_data boot (shown.Power power) = power_data power
-view_data boot (shown.Usage lines) = usage_data lines
-view_data boot (shown.Op operation) = operation_data boot operation
+abbrev pub view_data : Terms → View → Data
+view_data terms shown.Server = server_data
+view_data terms (shown.Project project used) = project_data project used
+view_data terms (shown.Profile profile used) = profile_data profile used
+view_data terms (shown.Network network used) = network_data network used
+view_data terms (shown.Pool pool used) = pool_data pool used
+view_data terms (shown.Volume volume used) = volume_data volume used
+view_data terms (shown.Instance instance config devices power) = instance_data instance config devices power
+view_data terms (shown.Snapshot snapshot) = snapshot_data snapshot
+view_data terms (shown.Power power) = power_data power
+view_data terms (shown.Usage lines) = usage_data lines
+view_data terms (shown.Op operation) = operation_data terms.boot operation

@@ -8,6 +8,7 @@ ghost use Rattle.rest_json.specs.Views.{volume_data, instance_data, expiry_text,
 ghost use Rattle.rest_json.specs.Views.{usage_data, view_data};
 
 use crate::operation::operation_value;
+use crate::terms::Terms;
 use crate::text::JsonText;
 use crate::views::{expiry_text, usage_value};
 use crate::words::{driver_text, instance_kind, power_code, power_text};
@@ -227,14 +228,14 @@ pub fn write_operation(
     text.value(&value)
 }
 
-/// An object of any kind. The boot word is that of the ids of operations.
+/// An object of any kind.
 pub fn write_view(
     text: JsonText,
     alloc: Global,
-    boot: u64,
+    terms: Terms,
     shown: &View,
 ) -> Result<JsonText, NoMemory>
-    ensures { IfOk result (λ t. t ≡ text ++ compact_text (view_data boot shown.now)) }
+    ensures { IfOk result (λ t. t ≡ text ++ compact_text (view_data terms shown.now)) }
 {
     match shown {
         View::Server => write_server(text),
@@ -252,6 +253,6 @@ pub fn write_view(
         View::Snapshot(row) => write_snapshot(text, alloc, row),
         View::Power(power) => write_power(text, *power),
         View::Usage(lines) => write_usage(text, alloc, lines),
-        View::Op(operation) => write_operation(text, alloc, boot, operation),
+        View::Op(operation) => write_operation(text, alloc, terms.boot, operation),
     }
 }

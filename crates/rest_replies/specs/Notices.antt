@@ -10,6 +10,7 @@ use Rattle.serde_json.specs.Written.{compact_text}
 use Rattle.rest_json.specs.Moments.{moment_text}
 use Rattle.rest_json.specs.Objects.{object_of, whole}
 use Rattle.rest_json.specs.Operations.{operation_data}
+use Rattle.rest_json.specs.declared.terms.Terms.{Terms}
 
 -- how an action is written
 abbrev pub life_text : Life → List ℕ
@@ -73,5 +74,5 @@ notice_data boot notice = object_of (
     ∷ [])
 
 -- a notice as a text
-unfoldable pub notice_text : Notice → ℕ → List ℕ
-notice_text notice boot = compact_text (notice_data boot notice)
+unfoldable pub notice_text : Notice → Terms → List ℕ
+notice_text notice terms = compact_text (notice_data terms.boot notice)

@@ -19,6 +19,7 @@ use Rattle.rest_json.specs.Objects.{object_of, list_of, whole}
 use Rattle.rest_json.specs.Settings.{texts_data}
 use Rattle.rest_json.specs.Operations.{operation_data}
 use Rattle.rest_json.specs.Views.{view_data}
+use Rattle.rest_json.specs.declared.terms.Terms.{Terms}
 use Rattle.rest_replies.specs.Refusals.{rule_code, refusal_data}
 
 -- the reply to a command that was carried out at once, with what it tells
@@ -73,16 +74,16 @@ abbrev pub no_memory_refusal : Refusal
 no_memory_refusal = record { rule = rule.M1; details = no_details }
 
 -- the body of a reply
-abbrev pub reply_data : ℕ → Reply → Data
-reply_data boot reply.Empty = success_data (object no_members)
-reply_data boot (reply.Links urls) = success_data (texts_data urls)
-reply_data boot (reply.One shown) = success_data (view_data boot shown)
-reply_data boot (reply.Many views) = success_data (list_of (map (view_data boot) views))
-reply_data boot (reply.OpLinks groups) = success_data (by_status boot groups)
-reply_data boot (reply.OpMany groups) = success_data (whole_by_status boot groups)
-reply_data boot (reply.Started operation) = started_data boot operation
-reply_data boot (reply.Refused refusal) = refusal_data refusal
-reply_data boot reply.NoMemory = refusal_data no_memory_refusal
+abbrev pub reply_data : Terms → Reply → Data
+reply_data terms reply.Empty = success_data (object no_members)
+reply_data terms (reply.Links urls) = success_data (texts_data urls)
+reply_data terms (reply.One shown) = success_data (view_data terms shown)
+reply_data terms (reply.Many views) = success_data (list_of (map (view_data terms) views))
+reply_data terms (reply.OpLinks groups) = success_data (by_status terms.boot groups)
+reply_data terms (reply.OpMany groups) = success_data (whole_by_status terms.boot groups)
+reply_data terms (reply.Started operation) = started_data terms.boot operation
+reply_data terms (reply.Refused refusal) = refusal_data refusal
+reply_data terms reply.NoMemory = refusal_data no_memory_refusal
 
 -- the HTTP status code of a reply
 abbrev pub reply_code : Reply → ℕ
@@ -97,11 +98,11 @@ reply_location boot (reply.Started operation) = operation_url boot operation.num
 reply_location boot other = []
 
 -- a reply as it is printed; the connection may end after it
-unfoldable pub printed_of : Reply → ℕ → Bool → Printed
-printed_of reply boot last = record {
+unfoldable pub printed_of : Reply → Terms → Bool → Printed
+printed_of reply terms last = record {
   code = reply_code reply;
-  body = compact_text (reply_data boot reply);
-  location = reply_location boot reply;
+  body = compact_text (reply_data terms reply);
+  location = reply_location terms.boot reply;
   last = last;
 }
 
@@ -121,4 +122,4 @@ stands_ready reply last = not last && depends_on_nothing reply
 
 -- the body where there is no memory is the one that is sent without making it
 abbrev pub NoMemoryIsKnown : Type 0
-NoMemoryIsKnown = (boot : ℕ) → compact_text (reply_data boot reply.NoMemory) ≡ no_memory_body
+NoMemoryIsKnown = (terms : Terms) → compact_text (reply_data terms reply.NoMemory) ≡ no_memory_body

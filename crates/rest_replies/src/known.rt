@@ -1,11 +1,12 @@
 //! Replies that depend on nothing: they are sent as they stand here, and not made anew.
-ghost use Rattle.std.specs.Prelude.{◌≡◌, ℕ, false, IfSome, is_some};
+ghost use Rattle.std.specs.Prelude.{◌≡◌, false, IfSome, is_some};
 ghost use Rattle.http_front.specs.Replies.{reply_text};
 ghost use Rattle.records.specs.declared.replies.Reply.TheVariants as reply;
 ghost use Rattle.records.specs.declared.replies.View.TheVariants as view;
 ghost use Rattle.rest_replies.specs.Replies.{printed_of, is_server, stands_ready};
 
 use records::{Reply, View};
+use rest_json::Terms;
 
 /// The reply to a command that was carried out and tells nothing.
 const EMPTY: &[u8] =
@@ -26,16 +27,15 @@ fn is_server(shown: &View) -> bool
 }
 
 /// The whole text of the reply that tells of the server, where the connection stays open after it.
-pub fn server_text() -> &'static [u8]
-    ensures { (boot : ℕ) → result.now ≡ reply_text (printed_of (reply.One view.Server) boot false) }
+pub fn server_text(terms: Terms) -> &'static [u8]
+    ensures { result.now ≡ reply_text (printed_of (reply.One view.Server) terms false) }
 {
     SERVER
 }
 
 /// The whole text of a reply that depends on nothing, where the connection stays open after it.
-pub fn known_reply(reply: &Reply, last: bool) -> Option<&'static [u8]>
-    ensures text { IfSome result (λ text. (boot : ℕ)
-        → text.now ≡ reply_text (printed_of reply.now boot last)) }
+pub fn known_reply(reply: &Reply, terms: Terms, last: bool) -> Option<&'static [u8]>
+    ensures text { IfSome result (λ text. text.now ≡ reply_text (printed_of reply.now terms last)) }
     ensures when { is_some result ≡ stands_ready reply.now last }
 {
     if last {
@@ -43,7 +43,13 @@ pub fn known_reply(reply: &Reply, last: bool) -> Option<&'static [u8]>
     }
     match reply {
         Reply::Empty => Some(EMPTY),
-        Reply::One(shown) => { if is_server(shown) { Some(SERVER) } else { None } }
+        Reply::One(shown) => {
+            if is_server(shown) {
+                Some(server_text(terms))
+            } else {
+                None
+            }
+        }
         _ => None,
     }
 }

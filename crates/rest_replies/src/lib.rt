@@ -13,4 +13,4 @@ pub use laws::no_memory_is_known;
 pub use notices::print_notice;
 pub use printing::print;
 pub use refusals::rule_name;
-pub use rest_json::{id_text, ids_read_back, number_of};
+pub use rest_json::{Dialect, Terms, id_text, ids_read_back, number_of};

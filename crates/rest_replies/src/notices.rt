@@ -4,7 +4,7 @@ ghost use Rattle.serde_json.specs.View.{view};
 ghost use Rattle.rest_replies.specs.Notices.{life_text, event_type, life_data, event_data, notice_data, notice_text};
 
 use records::{EventBody, Life, Notice};
-use rest_json::{Object, operation_value};
+use rest_json::{Object, Terms, operation_value};
 use serde_json::Value;
 use size_values::{NoMemory, Text};
 use std::alloc::Global;
@@ -94,12 +94,12 @@ fn notice_value(alloc: Global, notice: &Notice, boot: u64) -> Result<Value, NoMe
     Ok(object.into_value())
 }
 
-/// A notice as the text of its event. The boot word is that of the ids of operations.
+/// A notice as the text of its event.
 #[tactic(auto, unfolding(crate::specs::Notices::notice_text))]
-pub fn print_notice(alloc: Global, notice: &Notice, boot: u64) -> Result<Text, NoMemory>
-    ensures { IfOk result (λ t. t ≡ notice_text notice.now boot) }
+pub fn print_notice(alloc: Global, notice: &Notice, terms: Terms) -> Result<Text, NoMemory>
+    ensures { IfOk result (λ t. t ≡ notice_text notice.now terms) }
 {
-    let value = notice_value(alloc, notice, boot)?;
+    let value = notice_value(alloc, notice, terms.boot)?;
     let text = value.to_string(alloc);
     drop(value);
     Ok(Text::from_string(text?))

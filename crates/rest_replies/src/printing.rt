@@ -16,7 +16,8 @@ use crate::refusals::{refusal_value, rule_code};
 use http_front::Printed;
 use records::{Details, OpView, Refusal, Reply, Rule, Status, View};
 use rest_json::{
-    JsonText, Object, operation_url, operation_value, status_key, write_operation, write_view,
+    JsonText, Object, Terms, operation_url, operation_value, status_key, write_operation,
+    write_view,
 };
 use serde_json::Value;
 use size_values::{NoMemory, Seq, Text};
@@ -62,11 +63,11 @@ fn urls_body(alloc: Global, urls: &Seq<Text>) -> Result<Seq<u8>, NoMemory>
 }
 
 /// The reply that tells of one object.
-fn one_body(alloc: Global, boot: u64, shown: &View) -> Result<Seq<u8>, NoMemory>
-    ensures { IfOk result (λ b. b ≡ compact_text (success_data (view_data boot shown.now))) }
+fn one_body(alloc: Global, terms: Terms, shown: &View) -> Result<Seq<u8>, NoMemory>
+    ensures { IfOk result (λ b. b ≡ compact_text (success_data (view_data terms shown.now))) }
 {
     let front = JsonText::new(alloc, 1_024)?.plain(FRONT)?;
-    let text = write_view(front, alloc, boot, shown)?.plain(BACK)?;
+    let text = write_view(front, alloc, terms, shown)?.plain(BACK)?;
     Ok(text.into_bytes())
 }
 
@@ -74,28 +75,28 @@ fn one_body(alloc: Global, boot: u64, shown: &View) -> Result<Seq<u8>, NoMemory>
 fn write_views(
     text: JsonText,
     alloc: Global,
-    boot: u64,
+    terms: Terms,
     views: &Seq<View>,
 ) -> Result<JsonText, NoMemory>
     ensures { IfOk result
-        (λ t. t ≡ text ++ compact_text (list_of (map (view_data boot) views.now))) }
+        (λ t. t ≡ text ++ compact_text (list_of (map (view_data terms) views.now))) }
 {
     let mut written = text.plain("[")?;
     let mut later = false;
     for shown in views.view() {
-        written = write_view(written.comma(later)?, alloc, boot, shown)?;
+        written = write_view(written.comma(later)?, alloc, terms, shown)?;
         later = true;
     }
     written.plain("]")
 }
 
 /// The reply that tells of objects.
-fn many_body(alloc: Global, boot: u64, views: &Seq<View>) -> Result<Seq<u8>, NoMemory>
+fn many_body(alloc: Global, terms: Terms, views: &Seq<View>) -> Result<Seq<u8>, NoMemory>
     ensures { IfOk result
-        (λ b. b ≡ compact_text (success_data (list_of (map (view_data boot) views.now)))) }
+        (λ b. b ≡ compact_text (success_data (list_of (map (view_data terms) views.now)))) }
 {
     let front = JsonText::new(alloc, 1_024)?.plain(FRONT)?;
-    let text = write_views(front, alloc, boot, views)?.plain(BACK)?;
+    let text = write_views(front, alloc, terms, views)?.plain(BACK)?;
     Ok(text.into_bytes())
 }
 
@@ -224,17 +225,17 @@ fn refused_body(alloc: Global, refusal: &Refusal) -> Result<Seq<u8>, NoMemory>
 }
 
 /// The body of a reply as its bytes.
-fn reply_body(alloc: Global, boot: u64, reply: &Reply) -> Result<Seq<u8>, NoMemory>
-    ensures { IfOk result (λ b. b ≡ compact_text (reply_data boot reply.now)) }
+fn reply_body(alloc: Global, terms: Terms, reply: &Reply) -> Result<Seq<u8>, NoMemory>
+    ensures { IfOk result (λ b. b ≡ compact_text (reply_data terms reply.now)) }
 {
     match reply {
         Reply::Empty => empty_body(alloc),
         Reply::Links(urls) => urls_body(alloc, urls),
-        Reply::One(shown) => one_body(alloc, boot, shown),
-        Reply::Many(views) => many_body(alloc, boot, views),
-        Reply::OpLinks(groups) => by_status_body(alloc, boot, groups),
-        Reply::OpMany(groups) => whole_by_status_body(alloc, boot, groups),
-        Reply::Started(operation) => started_body(alloc, boot, operation),
+        Reply::One(shown) => one_body(alloc, terms, shown),
+        Reply::Many(views) => many_body(alloc, terms, views),
+        Reply::OpLinks(groups) => by_status_body(alloc, terms.boot, groups),
+        Reply::OpMany(groups) => whole_by_status_body(alloc, terms.boot, groups),
+        Reply::Started(operation) => started_body(alloc, terms.boot, operation),
         Reply::Refused(refusal) => refused_body(alloc, refusal),
         Reply::NoMemory => refused_body(alloc, &no_memory_refusal(alloc)),
     }
@@ -275,17 +276,17 @@ fn reply_location(alloc: Global, boot: u64, reply: &Reply) -> Result<Text, NoMem
     }
 }
 
-/// A reply as it is printed: its code, its body as JSON, and its Location. The boot word is that of the ids of
-/// operations, and with `last` the connection ends after the reply.
+/// A reply as it is printed: its code, its body as JSON, and its Location. With `last` the connection ends after the
+/// reply.
 #[tactic(auto, unfolding(crate::specs::Replies::printed_of))]
-pub fn print(alloc: Global, reply: &Reply, boot: u64, last: bool) -> Result<Printed, NoMemory>
-    ensures text { IfOk result (λ p. p ≡ printed_of reply.now boot last) }
+pub fn print(alloc: Global, reply: &Reply, terms: Terms, last: bool) -> Result<Printed, NoMemory>
+    ensures text { IfOk result (λ p. p ≡ printed_of reply.now terms last) }
     ensures code { IfOk result (λ p. IsTrue (is_reply_code p.code)) }
 {
     Ok(Printed {
         code: reply_code(reply),
-        body: reply_body(alloc, boot, reply)?,
-        location: reply_location(alloc, boot, reply)?,
+        body: reply_body(alloc, terms, reply)?,
+        location: reply_location(alloc, terms.boot, reply)?,
         last,
     })
 }

@@ -7,12 +7,13 @@ use Rattle.records.specs.declared.commands.Command.{Command}
 use Rattle.records.specs.declared.commands.What.TheVariants as what
 use Rattle.records.specs.declared.refusals.Rule.TheVariants as rule
 use Rattle.records.specs.declared.refusals.Refusal.{Refusal}
+use Rattle.rest_json.specs.declared.terms.Terms.{Terms}
 use Rattle.rest_routes.specs.Answers.{followed}
 use Rattle.rest_routes.specs.Paths.{path_of, query_of, absolute_path, before_colon, is_http}
 use Rattle.rest_routes.specs.Endpoints.{line_of, verb_of, verb_offered}
 use Rattle.rest_routes.specs.Queries.{project_of}
 use Rattle.rest_routes.proofs.Server.{server-stands, nothing-said}
-use Rattle.rest_routes.specs.Commands.{command_at, command_of, sent_body}
+use Rattle.rest_routes.specs.Commands.{command_at, command_of, plain_command, sent_body, told}
 use Rattle.rest_routes.specs.Known.{is_server_asked, server_asked}
 use Rattle.rest_routes.specs.WithBody.{needed}
 
@@ -36,10 +37,13 @@ both true true e = (refl, refl)
 both true false e = cc
 both false b e = cc
 
-pub known : (request : Request) (boot : ℕ) → is_server_asked request ≡ true → command_of request boot ≡ Ok server_asked
-unfolding command_of
-known request boot is =
+known-plain : (request : Request) (boot : ℕ) → is_server_asked request ≡ true → plain_command request boot ≡ Ok server_asked
+unfolding plain_command
+known-plain request boot is =
     let parts = both (bytes_eq request.method (codes "GET")) (bytes_eq request.target (codes "/1.0")) is in
     ap₂ (λ method target. asked-by method target request.body boot)
     ((bytes_eq-Decides request.method (codes "GET")).0 parts.0) ((bytes_eq-Decides request.target (codes "/1.0")).0 parts.1)
     ∙ by-get request.body boot
+
+pub known : (request : Request) (terms : Terms) → is_server_asked request ≡ true → command_of request terms ≡ Ok server_asked
+known request terms is = ap told (known-plain request terms.boot is)

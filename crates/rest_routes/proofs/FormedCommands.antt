@@ -1,21 +1,22 @@
 -- The command of each request is formed.
 use Rattle.std.proofs.Common.{◌≡◌, ℕ, true, List, Option, Result, Ok, Err, IfOk, IsTrue}
 use Rattle.serde_json.specs.Data.{Data}
-use Rattle.size_values.specs.declared.memory.Or.{Or}
 use Rattle.http_heads.specs.declared.request.Request.{Request}
 use Rattle.records.specs.Forms.{is_timeout, is_formed}
 use Rattle.records.specs.declared.commands.Command.{Command}
 use Rattle.records.specs.declared.commands.What.{What}
 use Rattle.records.specs.declared.refusals.Refusal.{Refusal}
 use Rattle.records.specs.declared.refusals.Rule.TheVariants as rule
+use Rattle.records.specs.declared.replies.Reply.{Reply}
+use Rattle.rest_json.specs.declared.terms.Terms.{Terms}
 use Rattle.rest_routes.proofs.Timeouts.{timeout_formed}
-use Rattle.rest_routes.specs.Answers.{Gives, mapped, followed}
+use Rattle.rest_routes.specs.Answers.{Reads, mapped, followed}
 use Rattle.rest_routes.specs.Paths.{path_of, query_of}
 use Rattle.rest_routes.specs.Endpoints.{line_of, verb_offered}
 use Rattle.rest_routes.specs.Queries.{query_from_text, project_of, wait_timeout}
 use Rattle.rest_routes.specs.declared.endpoints.Endpoint.{Endpoint}
 use Rattle.rest_routes.specs.declared.endpoints.Verb.{Verb}
-use Rattle.rest_routes.specs.Commands.{sent_body, command_at, command_of}
+use Rattle.rest_routes.specs.Commands.{sent_body, command_at, command_of, plain_command, told}
 use Rattle.rest_routes.specs.Routed.{RoutedIsFormed}
 use Rattle.rest_routes.specs.WithBody.{needed}
 use Rattle.rest_routes.proofs.FormedRequests.{AnswerIsFormed, asked_formed}
@@ -46,17 +47,24 @@ at_endpoint endpoint verb path query_text sent boot =
     after_good (λ query. is_timeout (wait_timeout query) ≡ true) (query_from_text query_text) _ (timeout_formed query_text) (λ query time.
     in_project (project_of query) _ (asked_formed endpoint verb path query boot sent time))
 
-pub routed_formed : RoutedIsFormed
-unfolding command_of
-routed_formed request boot =
+plain_formed : (request : Request) (boot : ℕ) → CommandIsFormed (plain_command request boot)
+unfolding plain_command
+plain_formed request boot =
     after_any (needed rule.A1 (line_of (path_of request.target))) _ (λ line.
     after_any (needed rule.A2 (verb_offered line request.method)) _ (λ verb.
     at_endpoint line.endpoint verb (path_of request.target) (query_of request.target) (sent_body verb request.body) boot))
 
--- a command that a function returns is formed
-pub formed_due : (result : Result Command (Or Refusal)) (request : Request) (boot : ℕ) → Gives result (command_of request boot) → IfOk result (λ c. IsTrue (is_formed c))
-formed_due (Ok command) request boot h = due (command_of request boot) h (routed_formed request boot)
+pub routed_formed : RoutedIsFormed
+routed_formed request terms = by (plain_command request terms.boot) (plain_formed request terms.boot)
   where
-    due : (answer : Result Command Refusal) → answer ≡ Ok command → CommandIsFormed answer → IsTrue (is_formed command)
+    by : (answer : Result Command Refusal) → CommandIsFormed answer → IfOk (told answer) (λ command. IsTrue (is_formed command))
+    by (Ok command) h = h
+    by (Err refusal) h = tt
+
+-- a command that a function returns is formed
+pub formed_due : (result : Result Command Reply) (request : Request) (terms : Terms) → Reads result (command_of request terms) → IfOk result (λ c. IsTrue (is_formed c))
+formed_due (Ok command) request terms h = due (command_of request terms) h (routed_formed request terms)
+  where
+    due : (answer : Result Command Reply) → answer ≡ Ok command → IfOk answer (λ c. IsTrue (is_formed c)) → IsTrue (is_formed command)
     due answer is h = rw is at h
-formed_due (Err refusal) request boot h = tt
+formed_due (Err said) request terms h = tt

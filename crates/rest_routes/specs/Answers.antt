@@ -1,5 +1,8 @@
 -- Answers that take memory: what they are, and one made from another.
-use Rattle.std.specs.Prelude.{◌≡◌, Result, Ok, Err}
+use Rattle.std.specs.Prelude.{◌≡◌, ◌⊎◌, Result, Ok, Err}
+use Rattle.records.specs.declared.commands.Command.{Command}
+use Rattle.records.specs.declared.replies.Reply.{Reply}
+use Rattle.records.specs.declared.replies.Reply.TheVariants as reply
 use Rattle.size_values.specs.declared.memory.Or.{Or}
 use Rattle.size_values.specs.declared.memory.Or.TheVariants as or
 
@@ -12,6 +15,11 @@ IsDue (or.Why error) due = due ≡ Err error
 abbrev pub Gives : {T E : Type 0} → Result T (Or E) → Result T E → Type 0
 Gives (Ok value) due = due ≡ Ok value
 Gives (Err error) due = IsDue error due
+
+-- what a request was read as is what is due, or the reply that tells that there was no memory for it
+abbrev pub Reads : Result Command Reply → Result Command Reply → Type 0
+Reads (Ok command) due = due ≡ Ok command
+Reads (Err said) due = (said ≡ reply.NoMemory) ⊎ (due ≡ Err said)
 
 -- a refusal that was made is this one, unless memory ran out
 abbrev pub IsRefused : {E : Type 0} → Or E → E → Type 0

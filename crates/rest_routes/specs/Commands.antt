@@ -1,12 +1,15 @@
 -- Which command a request asks for, or by which rule of its form it is refused.
-use Rattle.std.specs.Prelude.{ℕ, List, Option, None, Result, if◌then◌else◌}
+use Rattle.std.specs.Prelude.{ℕ, List, Option, None, Result, Ok, Err, if◌then◌else◌}
 use Rattle.serde_json.specs.Data.{Data}
 use Rattle.http_heads.specs.declared.request.Request.{Request}
 use Rattle.records.specs.declared.commands.Command.{Command}
 use Rattle.records.specs.declared.commands.What.{What}
 use Rattle.records.specs.declared.refusals.Rule.TheVariants as rule
 use Rattle.records.specs.declared.refusals.Refusal.{Refusal}
+use Rattle.records.specs.declared.replies.Reply.{Reply}
+use Rattle.records.specs.declared.replies.Reply.TheVariants as reply
 use Rattle.rest_bodies.specs.Members.{object_in}
+use Rattle.rest_json.specs.declared.terms.Terms.{Terms}
 use Rattle.rest_routes.specs.Answers.{mapped, followed}
 use Rattle.rest_routes.specs.Paths.{path_of, query_of}
 use Rattle.rest_routes.specs.Endpoints.{line_of, verb_offered, has_body}
@@ -34,10 +37,20 @@ command_at endpoint verb path query_text sent boot =
     mapped (λ asked. record { project = project_of query; what = asked })
     (what_of endpoint verb path query boot sent))
 
--- The command that a request asks for, or its refusal: its path is listed (A1), and its method is offered there (A2).
-unfoldable pub command_of : Request → ℕ → Result Command Refusal
-command_of request boot =
+-- The command that a request in plain form asks for, or its refusal: its path is listed (A1), and its method is offered
+-- there (A2).
+unfoldable pub plain_command : Request → ℕ → Result Command Refusal
+plain_command request boot =
     followed (needed rule.A1 (line_of (path_of request.target))) (λ line.
     followed (needed rule.A2 (verb_offered line request.method)) (λ verb.
     command_at line.endpoint verb (path_of request.target) (query_of request.target)
     (sent_body verb request.body) boot))
+
+-- a refusal is the reply of a request that is refused
+abbrev pub told : Result Command Refusal → Result Command Reply
+told (Ok command) = Ok command
+told (Err refusal) = Err (reply.Refused refusal)
+
+-- What a request asks for: a command, or a reply that needs none.
+abbrev pub command_of : Request → Terms → Result Command Reply
+command_of request terms = told (plain_command request terms.boot)

@@ -1,8 +1,8 @@
 //! The command of a request, or the refusal of its form.
 ghost use Rattle.std.specs.Prelude.{◌≡◌, IfOk, option_map};
 ghost use Rattle.serde_json.specs.View.{view};
-ghost use Rattle.rest_routes.specs.Answers.{Gives};
-ghost use Rattle.rest_routes.specs.Commands.{sent_body, what_of, command_at, command_of};
+ghost use Rattle.rest_routes.specs.Answers.{Gives, Reads};
+ghost use Rattle.rest_routes.specs.Commands.{sent_body, what_of, command_at, plain_command, command_of};
 
 use crate::endpoints::{Endpoint, Verb, has_body, verb_offered};
 use crate::paths::split_target;
@@ -12,8 +12,9 @@ use crate::table::PathTable;
 use crate::with_body::what_with_body;
 use crate::without_body::what_without_body;
 use http_heads::Request;
-use records::{Command, Refusal, Rule, What};
+use records::{Command, Refusal, Reply, Rule, What};
 use rest_bodies::object_in;
+use rest_json::Terms;
 use serde_json::Value;
 use size_values::{NoMemory, Or};
 use std::alloc::Global;
@@ -70,15 +71,15 @@ fn command_at(
     }
 }
 
-/// The command that a request asks for, by the table of paths.
-#[tactic(auto, unfolding(crate::specs::Commands::command_of))]
-pub(crate) fn command_of(
+/// The command that a request in plain form asks for, by the table of paths.
+#[tactic(auto, unfolding(crate::specs::Commands::plain_command))]
+fn plain_command(
     alloc: Global,
     table: &PathTable,
     request: &Request,
     boot: u64,
 ) -> Result<Command, Or<Refusal>>
-    ensures { Gives result (command_of request.now boot) }
+    ensures { Gives result (plain_command request.now boot) }
 {
     let (path, query_text) = split_target(request.target.view());
     let Some(line) = table.line_of(path) else {
@@ -89,4 +90,20 @@ pub(crate) fn command_of(
     };
     let sent = sent_body(alloc, verb, request.body.view())?;
     command_at(alloc, line.endpoint, verb, path, query_text, &sent, boot)
+}
+
+/// What a request asks for: a command, or a reply that needs none.
+pub(crate) fn command_of(
+    alloc: Global,
+    table: &PathTable,
+    request: &Request,
+    terms: Terms,
+) -> Result<Command, Reply>
+    ensures { Reads result (command_of request.now terms) }
+{
+    match plain_command(alloc, table, request, terms.boot) {
+        Ok(command) => Ok(command),
+        Err(Or::Why(refusal)) => Err(Reply::Refused(refusal)),
+        Err(Or::NoMemory) => Err(Reply::NoMemory),
+    }
 }

@@ -1,5 +1,6 @@
 //! A request whose reply depends on no row.
-ghost use Rattle.std.specs.Prelude.{◌≡◌, IsTrue, Ok, ℕ};
+ghost use Rattle.std.specs.Prelude.{◌≡◌, IsTrue, Ok};
+ghost use Rattle.rest_json.specs.declared.terms.Terms.{Terms};
 ghost use Rattle.rest_routes.specs.Commands.{command_of};
 ghost use Rattle.rest_routes.specs.Known.{is_server_asked, server_asked};
 
@@ -9,7 +10,7 @@ use http_heads::Request;
 /// requests of those who only look whether the server is there are such.
 pub fn asks_for_server(request: &Request) -> bool
     ensures asked { result ≡ is_server_asked request.now }
-    ensures command { IsTrue result → (boot : ℕ) → command_of request.now boot ≡ Ok server_asked }
+    ensures command { IsTrue result → (terms : Terms) → command_of request.now terms ≡ Ok server_asked }
 {
     request.method.view() == "GET" && request.target.view() == "/1.0"
 }

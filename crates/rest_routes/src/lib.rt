@@ -32,6 +32,6 @@ pub use query::{
 };
 pub use refusals::{no_operation, plain_refusal, refusal_on_key};
 pub use rest_bodies::names_first_bad;
-pub use rest_replies::{id_text, number_of, print, print_notice};
+pub use rest_replies::{Dialect, Terms, id_text, number_of, print, print_notice};
 pub use router::Router;
 pub use table::PathTable;

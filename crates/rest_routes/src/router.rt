@@ -1,14 +1,15 @@
 ghost use Rattle.std.specs.Prelude.{◌≡◌, IfOk, IsTrue};
 ghost use Rattle.records.specs.Forms.{is_formed};
-ghost use Rattle.rest_routes.specs.Answers.{Gives};
+ghost use Rattle.rest_routes.specs.Answers.{Reads};
 ghost use Rattle.rest_routes.specs.Endpoints.{rows};
 ghost use Rattle.rest_routes.specs.Commands.{command_of};
 
 use crate::commands::command_of;
 use crate::table::PathTable;
 use http_heads::Request;
-use records::{Command, Refusal};
-use size_values::{NoMemory, Or};
+use records::{Command, Reply};
+use rest_json::Terms;
+use size_values::NoMemory;
 use std::alloc::Global;
 use std::marker::Model;
 
@@ -35,12 +36,12 @@ impl Router {
         Ok(Router { table })
     }
 
-    /// The command that a request asks for, or the refusal by the first rule of its form that it breaks. `boot` is
-    /// the word by which the daemon tells its operations from those of earlier boots.
-    pub fn route(&self, alloc: Global, request: &Request, boot: u64) -> Result<Command, Or<Refusal>>
-        ensures gives { Gives result (command_of request.now boot) }
+    /// What a request asks for: a command, or a reply that needs none, as the refusal by the first rule of its form
+    /// that it breaks. Where memory is refused, the reply says so.
+    pub fn route(&self, alloc: Global, request: &Request, terms: Terms) -> Result<Command, Reply>
+        ensures reads { Reads result (command_of request.now terms) }
         ensures formed { IfOk result (λ c. IsTrue (is_formed c)) }
     {
-        command_of(alloc, &self.table, request, boot)
+        command_of(alloc, &self.table, request, terms)
     }
 }

@@ -5,8 +5,8 @@ use Rattle.rest_answers.proofs.Printing.{whole_printed}
 use Rattle.rest_answers.proofs.answers.server_answer.Goals as goal
 
 pub returns-clause-text : goal.returns-clause-text
-returns-clause-text c = λ boot request stays by_get.
-    c.ready.ensures ∙ c.server_text.ensures boot ∙ sym (whole_printed (reply.One view.Server) boot request stays by_get)
+returns-clause-text c = λ request stays by_get.
+    c.ready.ensures ∙ c.server_text.ensures ∙ sym (whole_printed (reply.One view.Server) c.args.terms request stays by_get)
 
 pub returns-clause-printed : goal.returns-clause-printed
 returns-clause-printed c = λ none. none

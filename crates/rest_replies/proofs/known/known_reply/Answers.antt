@@ -16,7 +16,7 @@ shown-server other e = cc
 pub returns-in-Empty : goal.returns-in-Empty
 unfolding printed_of reply_text success_data digits escape_byte
 returns-in-Empty c = record {
-  text = λ boot. rw (c.in-Empty.is, c.if-last.false) refl;
+  text = rw (c.in-Empty.is, c.if-last.false) refl;
   when = rw (c.in-Empty.is, c.if-last.false) refl;
 }
 
@@ -25,6 +25,6 @@ unfolding printed_of reply_text success_data server_data digits escape_byte
 returns-then-is_server c =
     let server = shown-server _ (sym c.is_server.ensures ∙ c.if-is_server.true) in
     record {
-      text = λ boot. rw (c.in-One.is, server, c.if-last.false) refl;
+      text = rw (c.in-One.is, server, c.if-last.false) c.server_text.ensures;
       when = rw (c.in-One.is, server, c.if-last.false) refl;
     }

@@ -8,4 +8,4 @@ use Rattle.rest_replies.proofs.known.server_text.Goals as goal
 
 pub returns : goal.returns
 unfolding printed_of reply_text success_data server_data digits escape_byte
-returns c = λ boot. refl
+returns c = refl

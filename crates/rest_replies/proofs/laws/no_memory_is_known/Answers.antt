@@ -6,4 +6,4 @@ use Rattle.rest_replies.proofs.laws.no_memory_is_known.Goals as goal
 
 pub returns : goal.returns
 unfolding details_data refusal_data digits escape_byte
-returns c = λ boot. refl
+returns c = λ terms. refl

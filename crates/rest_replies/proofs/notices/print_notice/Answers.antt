@@ -8,5 +8,5 @@ pub returns : goal.returns
 unfolding notice_text
 returns c =
     c.from_string.ensures
-    ∙ c.in_ok-text.ensures.text (ap has_float c.in_ok-value.ensures ∙ notice_plain c.args.boot c.args.notice.now)
+    ∙ c.in_ok-text.ensures.text (ap has_float c.in_ok-value.ensures ∙ notice_plain c.args.terms.boot c.args.notice.now)
     ∙ ap compact_text c.in_ok-value.ensures

@@ -11,7 +11,7 @@ use Rattle.rest_replies.proofs.printing.many_body.Goals as goal
 pub returns : goal.returns
 unfolding success_data escape_byte digits
 returns c =
-    let told = compact_text (list_of (map (view_data c.args.boot) c.args.views.now)) in
+    let told = compact_text (list_of (map (view_data c.args.terms) c.args.views.now)) in
     let t1 = more (codes "{\"metadata\":") c.in_ok-front.ensures c.in_ok-new.ensures in
     let t2 = more told c.in_ok-write_views.ensures t1 in
     let t3 = more (codes ",\"status\":\"Success\",\"status_code\":200,\"type\":\"sync\"}") c.in_ok-text.ensures t2 in

@@ -6,5 +6,5 @@ use Rattle.rest_replies.proofs.printing.write_views.Given as goal
 
 abbrev pub invariant-loop-shown : goal.invariant-loop-shown
 invariant-loop-shown l =
-    l.written ++ items_text l.later (items_of (map (view_data l.boot) (drop l.shown-index l.shown-items)))
-    ≡ l.fn.text ++ 91 ∷ items_text false (items_of (map (view_data l.boot) l.shown-items))
+    l.written ++ items_text l.later (items_of (map (view_data l.terms) (drop l.shown-index l.shown-items)))
+    ≡ l.fn.text ++ 91 ∷ items_text false (items_of (map (view_data l.terms) l.shown-items))

@@ -1,5 +1,6 @@
-use Rattle.std.proofs.Common.{◌≡◌, IsTrue, ℕ, Bool, true, false, ◌&&◌, Ok, refl, sym, ap, ap₂, ◌∙◌, codes, true≢false}
+use Rattle.std.proofs.Common.{◌≡◌, IsTrue, Bool, true, false, ◌&&◌, Ok, refl, sym, ap, ap₂, ◌∙◌, codes, true≢false}
 use Rattle.std.specs.Str.{bytes_eq}
+use Rattle.rest_json.specs.declared.terms.Terms.{Terms}
 use Rattle.rest_routes.specs.Commands.{command_of}
 use Rattle.rest_routes.specs.Known.{server_asked}
 use Rattle.rest_routes.proofs.ByGet.{known}
@@ -13,6 +14,6 @@ returns-then-eq-clause-command c = at c.eq-then-eq.result refl where
   target : bytes_eq c.args.request.now.target (codes "/1.0") ≡ c.eq-then-eq.result
   target = ap (λ t. bytes_eq t (codes "/1.0")) (sym c.view-then-eq.ensures.value) ∙ sym c.eq-then-eq.ensures
 
-  at : (b : Bool) → c.eq-then-eq.result ≡ b → IsTrue b → (boot : ℕ) → command_of c.args.request.now boot ≡ Ok server_asked
-  at true is told boot = known c.args.request.now boot (ap₂ (λ a b. a && b) method (target ∙ is))
-  at false is told boot = absurd (true≢false (sym told))
+  at : (b : Bool) → c.eq-then-eq.result ≡ b → IsTrue b → (terms : Terms) → command_of c.args.request.now terms ≡ Ok server_asked
+  at true is told terms = known c.args.request.now terms (ap₂ (λ a b. a && b) method (target ∙ is))
+  at false is told terms = absurd (true≢false (sym told))
