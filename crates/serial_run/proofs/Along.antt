@@ -9,7 +9,6 @@ use Rattle.size_values.specs.Causes.{RoseBy}
 use Rattle.size_values.specs.Moments.{moment_limit}
 use Rattle.http_front.specs.Clocks.{Readings, Reads, after_next}
 use Rattle.records.specs.declared.commands.Command.{Command}
-use Rattle.records.specs.declared.refusals.Refusal.{Refusal}
 use Rattle.records.specs.declared.replies.Reply.{Reply}
 use Rattle.row_machine.specs.declared.events.Answer.{Answer}
 use Rattle.row_machine.specs.machine.State.{State}
@@ -82,7 +81,7 @@ along_twice {a} {b} {c} {xs} {ys} {j} {k} {m} {n} first then = record {
   later_twice before now after first then = omega arith
 
 -- what was asked for at one moment
-along_carries : {w w' : SerialWorld} {asked : Result Command Refusal} {moment : Option ℕ} {outcome : Outcome} {a : Answer}
+along_carries : {w w' : SerialWorld} {asked : Result Command Reply} {moment : Option ℕ} {outcome : Outcome} {a : Answer}
     → Carries w asked moment outcome a w' → IsAlong w (option_to_list moment) (failed_commits outcome) 0 w'
 along_carries {w} {w'} {asked} {moment} {outcome} {a} h = record {
   clock = h.clock.read;
@@ -128,7 +127,7 @@ along_paced (pace.Steps count) w w' steps h = along_steps w w' steps (anyhow _ w
 along_paced pace.All w w' steps h = along_steps w w' steps (anyhow _ w w' steps h.0.made)
 
 -- a command whose answer was held back
-along_held : {w w' : SerialWorld} {asked : Result Command Refusal} {moment : Option ℕ} {outcome : Outcome} {h : Held} {r : Reply} → HeldBack w asked moment outcome h r w'
+along_held : {w w' : SerialWorld} {asked : Result Command Reply} {moment : Option ℕ} {outcome : Outcome} {h : Held} {r : Reply} → HeldBack w asked moment outcome h r w'
     → IsAlong w (option_to_list moment ++ held_moments (Some h))
     (failed_commits outcome + held_keeper_failures (Some h)) (held_host_failures (Some h)) w'
 along_held {w} {w'} {asked} {moment} {outcome} {h} {r} held =
@@ -141,7 +140,7 @@ along_held {w} {w'} {asked} {moment} {outcome} {h} {r} held =
       plain n = omega arith
 
 -- what was asked for, at once or after its answer was held back
-along_answered : (w w' : SerialWorld) (asked : Result Command Refusal) (moment : Option ℕ) (outcome : Outcome)
+along_answered : (w w' : SerialWorld) (asked : Result Command Reply) (moment : Option ℕ) (outcome : Outcome)
     (held : Option Held) (r : Reply) → IsAnswered w asked moment outcome held r w'
     → IsAlong w (option_to_list moment ++ held_moments held) (failed_commits outcome + held_keeper_failures held)
     (held_host_failures held) w'

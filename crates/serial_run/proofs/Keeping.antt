@@ -5,7 +5,6 @@ use Rattle.size_values.specs.declared.entry.Entry.{Entry}
 use Rattle.record_keeper.specs.Entries.{after_changes}
 use Rattle.record_keeper.specs.Store.{Store, IsAfterUpTo}
 use Rattle.records.specs.declared.commands.Command.{Command}
-use Rattle.records.specs.declared.refusals.Refusal.{Refusal}
 use Rattle.records.specs.declared.replies.Reply.{Reply}
 use Rattle.row_machine.specs.declared.changes.RowChange.{RowChange}
 use Rattle.row_machine.specs.declared.events.Answer.{Answer}
@@ -119,7 +118,7 @@ one {w} {w'} {e} {o} {a} moment at turn kept told = record {
 -- ---- what was asked for
 
 -- a request without a command changes nothing
-unasked_stays : (w w' : SerialWorld) (asked : Result Command Refusal) (o : Outcome) (a : Answer)
+unasked_stays : (w w' : SerialWorld) (asked : Result Command Reply) (o : Outcome) (a : Answer)
     → Carries w asked None o a w' → IsKept w → Through w [] w'
 unasked_stays w w' asked o a h told = record {
   keeps = (by asked o h.is, same_store o h.stored);
@@ -133,23 +132,23 @@ unasked_stays w w' asked o a h told = record {
   same_store (keeper_failed rise) stored = absurd stored
   same_store no_memory stored = stored
 
-  by : (asked : Result Command Refusal) (o : Outcome)
+  by : (asked : Result Command Reply) (o : Outcome)
       → carried_out w.serial.state None o asked ≡ Some (and_then a w'.serial.state) → w'.serial.state ≡ w.serial.state
   by (Ok c) well is = cc
   by (Ok c) (keeper_failed rise) is = cc
   by (Ok c) no_memory is = state_is is
-  by (Err refusal) well is = state_is is
-  by (Err refusal) (keeper_failed rise) is = cc
-  by (Err refusal) no_memory is = state_is is
+  by (Err said) well is = state_is is
+  by (Err said) (keeper_failed rise) is = cc
+  by (Err said) no_memory is = state_is is
 
-carries_keeps : (w w' : SerialWorld) (asked : Result Command Refusal) (moment : Option ℕ) (o : Outcome) (a : Answer)
+carries_keeps : (w w' : SerialWorld) (asked : Result Command Reply) (moment : Option ℕ) (o : Outcome) (a : Answer)
     → Carries w asked moment o a w' → IsKept w → Through w (asked_at moment o) w'
 carries_keeps w w' asked None o a h told = unasked_stays w w' asked o a h told
 carries_keeps w w' (Ok c) (Some moment) o a h told =
     let turn : Turns w.serial.state w.store (event.Ask c moment) o a w'.serial.state w'.store =
     record { is = h.is; stored = h.stored } in
     one moment refl turn h.kept told
-carries_keeps w w' (Err refusal) (Some moment) o a h told = let no : ⊥ = never h.is in absurd no where
+carries_keeps w w' (Err said) (Some moment) o a h told = let no : ⊥ = never h.is in absurd no where
   never : {x : After} → None ≡ Some x → ⊥
   never e = cc
 
@@ -172,7 +171,7 @@ paced_keeps pace.All w w' steps h told = steps_keep w w' steps (anyhow _ w w' st
 
 -- ---- exchanges
 
-held_keeps : (w w' : SerialWorld) (asked : Result Command Refusal) (moment : Option ℕ) (o : Outcome) (held : Held)
+held_keeps : (w w' : SerialWorld) (asked : Result Command Reply) (moment : Option ℕ) (o : Outcome) (held : Held)
     (r : Reply) → HeldBack w asked moment o held r w' → IsKept w
     → Through w (asked_at moment o ++ held_at (Some held)) w'
 held_keeps w w' asked moment o held r h told =
@@ -182,7 +181,7 @@ held_keeps w w' asked moment o held r h told =
     steps_keep h.waiting h.ended held.steps (anyhow _ h.waiting h.ended held.steps h.waits.made) asks.told in
     twice asks (twice waits (carries_keeps h.ended w' _ (Some held.moment) held.outcome _ h.shows waits.told))
 
-answered_keeps : (w w' : SerialWorld) (asked : Result Command Refusal) (moment : Option ℕ) (o : Outcome)
+answered_keeps : (w w' : SerialWorld) (asked : Result Command Reply) (moment : Option ℕ) (o : Outcome)
     (held : Option Held) (r : Reply) → IsAnswered w asked moment o held r w' → IsKept w
     → Through w (asked_at moment o ++ held_at held) w'
 answered_keeps w w' asked moment o None r h told =

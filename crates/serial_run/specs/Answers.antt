@@ -6,7 +6,6 @@ use Rattle.http_heads.specs.declared.request.Request.{Request}
 use Rattle.http_front.specs.Clocks.{Readings, Reads}
 use Rattle.records.specs.declared.commands.Command.{Command}
 use Rattle.records.specs.declared.commands.What.TheVariants as what
-use Rattle.records.specs.declared.refusals.Refusal.{Refusal}
 use Rattle.records.specs.declared.replies.Reply.{Reply}
 use Rattle.records.specs.declared.replies.Reply.TheVariants as reply
 use Rattle.row_machine.specs.declared.events.Event.TheVariants as event
@@ -45,7 +44,7 @@ pub record Shows (project : List ℕ) (op : ℕ) (serial : Serial) (store : Stor
   pub early : moment < moment_limit
 
 -- What was asked for came to a reply.
-pub record Reaches (world : SerialWorld) (asks : Result Command Refusal) (reply : Reply) (later : SerialWorld)
+pub record Reaches (world : SerialWorld) (asks : Result Command Reply) (reply : Reply) (later : SerialWorld)
     : Type 0 where
   pub moment : Option ℕ
   pub outcome : Outcome

@@ -6,7 +6,6 @@ ghost use Rattle.rest_routes.specs.Known.{server_asked};
 ghost use Rattle.rest_answers.specs.Texts.{asks_head};
 ghost use Rattle.record_keeper.specs.Store.{Store};
 ghost use Rattle.serial_steps.specs.Steps.{Hosted, hosted, serial_world};
-ghost use Rattle.rest_json.specs.declared.terms.Terms.{Terms as TermsValue};
 ghost use Rattle.serial_run.specs.Answers.{Answers, Reaches, Shows};
 
 use host_model::Host;
@@ -18,7 +17,6 @@ use rest_json::Terms;
 use rest_routes::Router;
 use serial_steps::{SerialDaemon, server_is_told};
 use size_values::Text;
-use start_faults::refused_reply;
 use std::alloc::Global;
 
 /// Asks for an operation in a project.
@@ -77,18 +75,19 @@ pub(crate) fn tell_of_server<C: Clock>(
     daemon: &SerialDaemon,
     clock: &mut C,
     request: &Request,
+    terms: Terms,
 ) -> PrintedReply
-    requires asked { (terms : TermsValue) → command_of request.now terms ≡ Ok server_asked }
+    requires asked { command_of request.now terms ≡ Ok server_asked }
     requires stays { request.now.last ≡ false }
     requires by_get { asks_head request.now ≡ false }
-    ensures { (terms : TermsValue) (store : Store) (host : Hosted) → Answers terms
+    ensures { (store : Store) (host : Hosted) → Answers terms
         (serial_world daemon.now store host (C.readings clock.old))
         (serial_world daemon.now store host (C.readings clock.new))
         request.now result }
 {
     server_is_told();
     let _moment = clock.now();
-    server_answer()
+    server_answer(terms)
 }
 
 /// Routes a request and asks for its command, at the next moment of the clock.
@@ -110,6 +109,6 @@ pub(crate) fn reply_to<R: Keeper, H: Host, C: Clock>(
 {
     match router.route(alloc, request, terms) {
         Ok(command) => carry_out(alloc, daemon, keeper, host, clock, command),
-        Err(why) => refused_reply(why),
+        Err(reply) => reply,
     }
 }

@@ -75,7 +75,7 @@ impl Service {
             request.now result }
     {
         if asks_for_server(request) && !request.last {
-            return tell_of_server(&self.daemon, clock, request);
+            return tell_of_server(&self.daemon, clock, request, terms);
         }
         let reply = reply_to(
             alloc,

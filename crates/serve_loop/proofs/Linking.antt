@@ -1,8 +1,10 @@
 -- A link, from what its parts ensure.
-use Rattle.std.proofs.Common.{◌≡◌, ◌≢◌, ◌≤◌, ◌⊎◌, ◌++◌, ℕ, List, [], ◌∷◌, length, Bool, true, false, refl, ap, sym, subst, ◌∙◌}
+use Rattle.std.proofs.Common.{◌≡◌, ◌≢◌, ◌≤◌, ◌⊎◌, ◌++◌, ◌&&◌, not, ℕ, List, [], ◌∷◌, length, Bool, true, false, refl, ap, sym, subst, ◌∙◌}
 use Rattle.std.proofs.Common.{Some, None, Ok, inl, inr, arith}
 use Rattle.size_values.specs.Causes.{Rose}
+use Rattle.http_heads.specs.Fields.{leave_due}
 use Rattle.http_heads.specs.declared.request.HeadFault.{HeadFault}
+use Rattle.http_heads.specs.declared.request.HeadFault.TheVariants.{H5}
 use Rattle.http_heads.specs.declared.request.Request.{Request}
 use Rattle.http_front.specs.Held.{most_held}
 use Rattle.http_heads.specs.Messages.{TellsLeave}
@@ -25,8 +27,8 @@ use Rattle.rest_routes.specs.Commands.{command_of}
 use Rattle.serve_loop.specs.Leave.{AsksNext, GivesLeave, GivesLeaveAt}
 use Rattle.serve_loop.specs.Replying.{Reaches}
 use Rattle.serve_loop.specs.Serving.{Asks, CarriesOut, Exchange, KeepsGate, LinkWorld, Serves, ServesAll}
-use Rattle.serve_loop.specs.Serving.{Follows, Looks, Meets, Serving, Stops, Turns, Untouched, WritesReply, end_after}
-use Rattle.serve_loop.specs.Serving.{turn_after}
+use Rattle.serve_loop.specs.Serving.{Follows, HasFault, Looks, Meets, Refuses, Serving, Stops, Turns, Untouched}
+use Rattle.serve_loop.specs.Serving.{WritesReply, end_after, is_barred, turn_after}
 use Rattle.serve_loop.specs.Subscriptions.{asks_by, asks_of, begins, is_refusal, let_in, looked_for, subscription_of}
 use Rattle.serve_loop.specs.declared.subscriptions.Subscription.{Subscription}
 use Rattle.serve_loop.specs.declared.link.LinkEnd.{LinkEnd}
@@ -38,19 +40,28 @@ use Rattle.serve_loop.proofs.Taking.{rose_after, takes_twice}
 
 -- ---- one turn
 
+-- leave is due to a request that is not refused for its `Origin`, where its client waits for it, and to no other one
+due_else : (refuses origin expects : Bool) → (refuses && origin) ≡ false → leave_due refuses origin expects ≡ expects
+due_else refuses origin true plain = ap not plain
+due_else refuses origin false plain = refl
+
+due_barred : (refuses origin expects : Bool) → (refuses && origin) ≡ true → leave_due refuses origin expects ≡ false
+due_barred refuses origin true barred = ap not barred
+due_barred refuses origin false barred = refl
+
 -- A turn that takes the next request, after leave where that is awaited, and has it answered goes on after its reply, or
 -- it is the final one, or the link ends at a failed write, or where memory for the reply was refused.
 turn_answers : (terms : Terms) (w w' : LinkWorld) (mid : Outlet) (request : Request) (r : Reply) (next : Turn)
-    → Asks w w' (got.Request request) → GivesLeave request.expects w.sink mid → begins request r ≡ None
+    → Asks w w' (got.Request request) → is_barred terms request ≡ false → GivesLeave request.expects w.sink mid → begins request r ≡ None
     → Reaches (asks_of request terms) w.gate w'.gate w.clock w'.clock r
     → WritesReply terms request r next mid w'.sink → Turns terms next w w'
-turn_answers terms w w' mid request r next asks gives plain reaches written =
+turn_answers terms w w' mid request r next asks welcome gives plain reaches written =
     subst (λ t. Turns terms t w w') (sym written.next_is) (by written.how written.writes) where
       e : Exchange
       e = record { request = request; history = reaches.history; reply = r }
 
       carried : CarriesOut terms w w' e
-      carried = record { asked = asks; begun = plain; gate = reaches.gate; handles = reaches.handles }
+      carried = record { asked = asks; welcome = welcome; begun = plain; gate = reaches.gate; handles = reaches.handles }
 
       a : PrintedReply
       a = written.answered
@@ -101,16 +112,18 @@ begins_wanted request r wanted refused is refuses =
 
 -- a turn at a request that subscribes: its session begins, or the refusal is answered
 turn_looks : (terms : Terms) (w w' : LinkWorld) (mid : Outlet) (request : Request) (wanted : Subscription) (next : Turn)
-    → Asks w w' (got.Request request) → GivesLeave request.expects w.sink mid → subscription_of request ≡ Some wanted
+    → Asks w w' (got.Request request) → is_barred terms request ≡ false → GivesLeave request.expects w.sink mid
+    → subscription_of request ≡ Some wanted
     → Looks terms wanted request next mid w'.sink w.gate w'.gate w.clock w'.clock → Turns terms next w w'
-turn_looks terms w w' mid request wanted next asks gives is (r, reaches, inl (refuses, written)) =
-    turn_answers terms w w' mid request r next asks gives (begins_wanted request r wanted true is refuses)
+turn_looks terms w w' mid request wanted next asks welcome gives is (r, reaches, inl (refuses, written)) =
+    turn_answers terms w w' mid request r next asks welcome gives (begins_wanted request r wanted true is refuses)
     (subst (λ a. Reaches a w.gate w'.gate w.clock w'.clock r) (asks_wanted terms request wanted is) reaches) written
-turn_looks terms w w' mid request wanted next asks gives is (r, reaches, inr (accepts, next_is, same)) =
+turn_looks terms w w' mid request wanted next asks welcome gives is (r, reaches, inr (accepts, next_is, same)) =
     subst (λ t. Turns terms t w w') (sym next_is) (
       record { request = request; history = asked.history; reply = r },
       record {
         asked = asks;
+        welcome = welcome;
         begun = begins_wanted request r wanted false is accepts;
         gate = asked.gate;
         handles = asked.handles;
@@ -122,15 +135,15 @@ turn_looks terms w w' mid request wanted next asks gives is (r, reaches, inr (ac
 
 -- a turn at a request: it is answered, or it stops the link
 turn_meets : (terms : Terms) (w w' : LinkWorld) (mid : Outlet) (request : Request) (next : Turn)
-    → Asks w w' (got.Request request) → GivesLeave request.expects w.sink mid
+    → Asks w w' (got.Request request) → is_barred terms request ≡ false → GivesLeave request.expects w.sink mid
     → Meets terms request next mid w'.sink w.gate w'.gate w.clock w'.clock → Turns terms next w w'
-turn_meets terms w w' mid request next asks gives (inl (plain, replies)) =
-    turn_answers terms w w' mid request replies.reply next asks gives (begins_plain request replies.reply plain)
+turn_meets terms w w' mid request next asks welcome gives (inl (plain, replies)) =
+    turn_answers terms w w' mid request replies.reply next asks welcome gives (begins_plain request replies.reply plain)
     (subst (λ a. Reaches a w.gate w'.gate w.clock w'.clock replies.reply) (asks_plain terms request plain) replies.reaches)
     replies.written
-turn_meets terms w w' mid request next asks gives (inr (inl (wanted, is, looks))) =
-    turn_looks terms w w' mid request wanted next asks gives is looks
-turn_meets terms w w' mid request next asks gives (inr (inr (is, same))) =
+turn_meets terms w w' mid request next asks welcome gives (inr (inl (wanted, is, looks))) =
+    turn_looks terms w w' mid request wanted next asks welcome gives is looks
+turn_meets terms w w' mid request next asks welcome gives (inr (inr (is, same))) =
     subst (λ t. Turns terms t w w') (sym is) (inr (inr (inr (inr (
       request,
       asks,
@@ -138,12 +151,21 @@ turn_meets terms w w' mid request next asks gives (inr (inr (is, same))) =
       gives_still request.expects w.sink mid w'.sink same.sink_is gives,
     )))))
 
--- a turn that refuses a malformed place
-turn_refuses : (terms : Terms) (w w' : LinkWorld) (fault : HeadFault) (how : Written) → Asks w w' (got.Malformed fault)
+-- a turn that refuses a fault
+turn_refuses : (terms : Terms) (w w' : LinkWorld) (fault : HeadFault) (how : Written) → HasFault terms fault w w'
     → KeepsGate w w' → RefusesPlace fault how w.sink w'.sink → Turns terms (turn.Stop (end_after how fault)) w w'
 turn_refuses terms w w' fault ended.Whole asks keeps refuses = (asks, keeps, refuses)
 turn_refuses terms w w' fault ended.WriteFault asks keeps refuses = inr (inl (fault, asks, keeps, refuses))
 turn_refuses terms w w' fault ended.NoMemory asks keeps refuses = inr (inr (inl (fault, asks, keeps, refuses)))
+
+-- the same, after a message was asked for to which no leave is due
+turn_faults : (terms : Terms) (w w' : LinkWorld) (mid : Outlet) (fault : HeadFault) (next : Turn)
+    → HasFault terms fault w w' → mid ≡ w.sink → Refuses fault next mid w'.sink w.gate w'.gate w.clock w'.clock
+    → Turns terms next w w'
+turn_faults terms w w' mid fault next has same refuses =
+    subst (λ t. Turns terms t w w') (sym refuses.1)
+    (turn_refuses terms w w' fault refuses.0 has (record { gate = refuses.3; clock = refuses.4 })
+    (subst (λ s. RefusesPlace fault refuses.0 s w'.sink) same refuses.2))
 
 -- nothing was done after the message was asked for
 keeps_gate : (w w' : LinkWorld) (mid : Outlet) → Untouched mid w'.sink w.gate w'.gate w.clock w'.clock → KeepsGate w w'
@@ -155,9 +177,9 @@ no_leave true a b is gives = cc
 no_leave false a b is gives = gives
 
 -- leave by the message that is held
-given_at : (w w' : LinkWorld) (mid : Outlet) (awaited : Bool) → TellsLeave w'.held awaited
-    → GivesLeave awaited w.sink mid → w'.sink ≡ mid → GivesLeaveAt w'.held w.sink w'.sink
-given_at w w' mid awaited tells gives same = record {
+given_at : (refuses : Bool) (w w' : LinkWorld) (mid : Outlet) (awaited : Bool) → TellsLeave refuses w'.held awaited
+    → GivesLeave awaited w.sink mid → w'.sink ≡ mid → GivesLeaveAt refuses w'.held w.sink w'.sink
+given_at refuses w w' mid awaited tells gives same = record {
   awaited = awaited;
   tells = tells;
   gives = gives_still awaited w.sink mid w'.sink same gives;
@@ -165,11 +187,16 @@ given_at w w' mid awaited tells gives same = record {
 
 -- a turn at what was answered of the next message
 pub turn_follows : (terms : Terms) (w w' : LinkWorld) (mid : Outlet) (answer : Got) (next : Turn)
-    → AsksNext w.held w.source w.sink answer w'.held w'.source mid
+    → AsksNext terms.refuses_origin w.held w.source w.sink answer w'.held w'.source mid
     → Follows terms answer next mid w'.sink w.gate w'.gate w.clock w'.clock → Turns terms next w w'
-turn_follows terms w w' mid (got.Request request) next asks follows =
-    turn_meets terms w w' mid request next asks.asked
-    (subst (λ awaited. GivesLeave awaited w.sink mid) (sym asks.due) asks.gives) follows
+turn_follows terms w w' mid (got.Request request) next asks (inl (welcome, meets)) =
+    turn_meets terms w w' mid request next asks.asked welcome
+    (subst (λ awaited. GivesLeave awaited w.sink mid)
+    (sym asks.due ∙ due_else terms.refuses_origin request.origin request.expects welcome) asks.gives) meets
+turn_follows terms w w' mid (got.Request request) next asks (inr (barred, refuses)) =
+    turn_faults terms w w' mid H5 next (inr (request, asks.asked, barred, refl))
+    (no_leave asks.awaited w.sink mid
+    (sym asks.due ∙ due_barred terms.refuses_origin request.origin request.expects barred) asks.gives) refuses
 turn_follows terms w w' mid got.End next asks follows =
     subst (λ t. Turns terms t w w') (sym follows.0) (
       asks.asked,
@@ -178,20 +205,17 @@ turn_follows terms w w' mid got.End next asks follows =
     )
 turn_follows terms w w' mid (got.Cut count) next asks follows =
     subst (λ t. Turns terms t w w') (sym follows.0)
-    (count, asks.asked, keeps_gate w w' mid follows.1, given_at w w' mid asks.awaited asks.due asks.gives follows.1.sink_is)
+    (count, asks.asked, keeps_gate w w' mid follows.1, given_at terms.refuses_origin w w' mid asks.awaited asks.due asks.gives follows.1.sink_is)
 turn_follows terms w w' mid (got.Malformed fault) next asks follows =
-    subst (λ t. Turns terms t w w') (sym follows.1)
-    (turn_refuses terms w w' fault follows.0 asks.asked (record { gate = follows.3; clock = follows.4 })
-    (subst (λ s. RefusesPlace fault follows.0 s w'.sink) (no_leave asks.awaited w.sink mid asks.due asks.gives)
-    follows.2))
+    turn_faults terms w w' mid fault next (inl asks.asked) (no_leave asks.awaited w.sink mid asks.due asks.gives) follows
 turn_follows terms w w' mid got.ReadFault next asks follows =
     subst (λ t. Turns terms t w w') (sym follows.0)
-    (asks.asked, keeps_gate w w' mid follows.1, given_at w w' mid asks.awaited asks.due asks.gives follows.1.sink_is)
+    (asks.asked, keeps_gate w w' mid follows.1, given_at terms.refuses_origin w w' mid asks.awaited asks.due asks.gives follows.1.sink_is)
 turn_follows terms w w' mid got.NoMemory next asks follows =
     subst (λ t. Turns terms t w w') (sym follows.0) (inr (inl (
       asks.asked,
       keeps_gate w w' mid follows.1,
-      given_at w w' mid asks.awaited asks.due asks.gives follows.1.sink_is,
+      given_at terms.refuses_origin w w' mid asks.awaited asks.due asks.gives follows.1.sink_is,
     )))
 
 -- ---- a link
@@ -279,18 +303,23 @@ few_along : (terms : Terms) (w w' : LinkWorld) (xs : List Exchange) → length w
 few_along terms w w' [] few same = subst (λ v. length v.held ≤ most_held) same few
 few_along terms w w' (e ∷ more) few serves = few_along terms serves.0 w' more serves.1.carries.asked.few serves.3
 
+-- it does not either where a fault stands next
+few_next : (terms : Terms) (fault : HeadFault) (w w' : LinkWorld) → HasFault terms fault w w' → length w'.held ≤ most_held
+few_next terms fault w w' (inl asks) = asks.few
+few_next terms fault w w' (inr (request, asks, barred, is)) = asks.few
+
 few_at : (terms : Terms) (ends : LinkEnd) (w w' : LinkWorld) → Stops terms ends w w' → length w.held ≤ most_held
     → length w'.held ≤ most_held
 few_at terms end.Ended w w' stops few = stops.0.few
 few_at terms end.Cut w w' stops few = stops.1.few
-few_at terms (end.Malformed fault) w w' stops few = stops.0.few
+few_at terms (end.Malformed fault) w w' stops few = few_next terms fault w w' stops.0
 few_at terms end.ReadFault w w' stops few = stops.0.few
 few_at terms end.WriteFault w w' (inl stops) few = stops.1.asked.few
-few_at terms end.WriteFault w w' (inr (inl stops)) few = stops.1.few
+few_at terms end.WriteFault w w' (inr (inl stops)) few = few_next terms stops.0 w w' stops.1
 few_at terms end.WriteFault w w' (inr (inr stops)) few = stops.0.few
 few_at terms end.NoMemory w w' (inl same) few = subst (λ v. length v.held ≤ most_held) (sym same) few
 few_at terms end.NoMemory w w' (inr (inl stops)) few = stops.0.few
-few_at terms end.NoMemory w w' (inr (inr (inl stops))) few = stops.1.few
+few_at terms end.NoMemory w w' (inr (inr (inl stops))) few = few_next terms stops.0 w w' stops.1
 few_at terms end.NoMemory w w' (inr (inr (inr (inl stops)))) few = stops.1.asked.few
 few_at terms end.NoMemory w w' (inr (inr (inr (inr stops)))) few = stops.1.few
 few_at terms (end.Events wanted) w w' stops few = stops.1.asked.few

@@ -1,15 +1,15 @@
 -- A link: its requests are taken one after the other, each comes to its reply at a gate, and then the link ends for one
--- reason. The boot word is that of the ids of operations.
-use Rattle.std.specs.Prelude.{◌≡◌, ◌≢◌, ◌≤◌, ◌⊎◌, ◌++◌, ℕ, List, [], ◌∷◌, Bool, true, false, length, Option, Some, None}
+-- reason. The terms say how requests are read and replies are printed, and whether an `Origin` is refused.
+use Rattle.std.specs.Prelude.{◌≡◌, ◌≢◌, ◌≤◌, ◌⊎◌, ◌++◌, ◌&&◌, ℕ, List, [], ◌∷◌, Bool, true, false, length, Option, Some, None}
 use Rattle.std.specs.Prelude.{Result, Ok}
 use Rattle.http_heads.specs.declared.request.HeadFault.{HeadFault}
+use Rattle.http_heads.specs.declared.request.HeadFault.TheVariants.{H5}
 use Rattle.http_heads.specs.declared.request.Request.{Request}
 use Rattle.http_front.specs.Clocks.{Readings}
 use Rattle.http_front.specs.Held.{most_held}
 use Rattle.http_front.specs.declared.read.Got.{Got}
 use Rattle.http_front.specs.declared.read.Got.TheVariants as got
 use Rattle.records.specs.declared.commands.Command.{Command}
-use Rattle.records.specs.declared.refusals.Refusal.{Refusal}
 use Rattle.records.specs.declared.replies.Reply.{Reply}
 use Rattle.records.specs.declared.replies.Reply.TheVariants as reply
 use Rattle.rest_json.specs.declared.terms.Terms.{Terms}
@@ -39,6 +39,10 @@ pub record Exchange : Type 0 where
   pub history : List Item
   pub reply : Reply
 
+-- requests with an `Origin` are refused on these terms, and this is one
+abbrev pub is_barred : Terms → Request → Bool
+is_barred terms request = terms.refuses_origin && request.origin
+
 -- what a link works on at one moment: the bytes that its buffer holds, its source and its sink, its gate, and what its
 -- clock tells
 pub record LinkWorld : Type 0 where
@@ -61,10 +65,17 @@ pub record KeepsGate (world later : LinkWorld) : Type 0 where
   pub gate : later.gate ≡ world.gate
   pub clock : later.clock ≡ world.clock
 
--- The next request was taken, and what it asks for at the gate came to its reply, after which this session begins, or
--- none.
+-- What stands next has this fault: no request can begin there, or one was taken that is refused for its `Origin` (H5).
+abbrev pub HasFault : Terms → HeadFault → LinkWorld → LinkWorld → Type 0
+HasFault terms fault world later = Asks world later (got.Malformed fault)
+    ⊎ ((request : Request) × Asks world later (got.Request request) × (is_barred terms request ≡ true)
+    × (fault ≡ H5))
+
+-- The next request was taken, is not refused for its `Origin`, and what it asks for at the gate came to its reply, after
+-- which this session begins, or none.
 pub record ComesTo (terms : Terms) (session : Option Subscription) (world later : LinkWorld) (exchange : Exchange) : Type 0 where
   pub asked : Asks world later (got.Request exchange.request)
+  pub welcome : is_barred terms exchange.request ≡ false
   pub begun : begins exchange.request exchange.reply ≡ session
   pub gate : Between exchange.history world.gate later.gate
   pub handles : Handles (asks_of exchange.request terms) world.clock exchange.history exchange.reply later.clock
@@ -82,28 +93,30 @@ pub record Serves (terms : Terms) (world later : LinkWorld) (exchange : Exchange
 -- ---- ends
 
 -- What stands next where a link ends before another request was answered whole, and what was done of it: nothing after
--- the end of the source and at a failed read; its reply at a malformed place; a part of a reply or of leave where a
+-- the end of the source and at a failed read; its reply at a fault; a part of a reply or of leave where a
 -- write failed; where memory was refused, no reply is written, after a request was carried out, before, or before any
 -- was read; and at a request after which a session of events begins, only its project was asked for. Leave was given
 -- before, where it was awaited.
 abbrev pub Stops : Terms → LinkEnd → LinkWorld → LinkWorld → Type 0
 Stops terms end.Ended world later = Asks world later got.End × KeepsGate world later × (later.sink ≡ world.sink)
 Stops terms end.Cut world later = (count : ℕ) × Asks world later (got.Cut count) × KeepsGate world later
-    × GivesLeaveAt later.held world.sink later.sink
-Stops terms (end.Malformed fault) world later = Asks world later (got.Malformed fault) × KeepsGate world later
+    × GivesLeaveAt terms.refuses_origin later.held world.sink later.sink
+Stops terms (end.Malformed fault) world later = HasFault terms fault world later × KeepsGate world later
     × Takes world.sink later.sink (malformed_text fault)
 Stops terms end.ReadFault world later =
-    Asks world later got.ReadFault × KeepsGate world later × GivesLeaveAt later.held world.sink later.sink
+    Asks world later got.ReadFault × KeepsGate world later
+    × GivesLeaveAt terms.refuses_origin later.held world.sink later.sink
 Stops terms end.WriteFault world later =
     ((exchange : Exchange) × CarriesOut terms world later exchange
     × BreaksReply exchange.request (printed exchange.reply terms exchange.request) world.sink later.sink)
-    ⊎ ((fault : HeadFault) × Asks world later (got.Malformed fault) × KeepsGate world later
+    ⊎ ((fault : HeadFault) × HasFault terms fault world later × KeepsGate world later
     × BreaksOff world.sink later.sink (malformed_text fault))
-    ⊎ (BreaksLeave world.held world.source world.sink later.held later.source later.sink × KeepsGate world later)
+    ⊎ (BreaksLeave terms.refuses_origin world.held world.source world.sink later.held later.source later.sink × KeepsGate world later)
 Stops terms end.NoMemory world later =
     (later ≡ world)
-    ⊎ (Asks world later got.NoMemory × KeepsGate world later × GivesLeaveAt later.held world.sink later.sink)
-    ⊎ ((fault : HeadFault) × Asks world later (got.Malformed fault) × KeepsGate world later × (later.sink ≡ world.sink))
+    ⊎ (Asks world later got.NoMemory × KeepsGate world later
+    × GivesLeaveAt terms.refuses_origin later.held world.sink later.sink)
+    ⊎ ((fault : HeadFault) × HasFault terms fault world later × KeepsGate world later × (later.sink ≡ world.sink))
     ⊎ ((exchange : Exchange) × CarriesOut terms world later exchange
     × (exchange.reply ≢ reply.NoMemory) × GivesLeave exchange.request.expects world.sink later.sink)
     ⊎ ((request : Request) × Asks world later (got.Request request) × KeepsGate world later
@@ -154,7 +167,7 @@ turn_after ended.Whole false = turn.GoOn
 turn_after ended.WriteFault last = turn.Stop end.WriteFault
 turn_after ended.NoMemory last = turn.Stop end.NoMemory
 
--- how a link ends at a malformed place, from how the writing of its reply ended
+-- how a link ends at a fault, from how the writing of its reply ended
 abbrev pub end_after : Written → HeadFault → LinkEnd
 end_after ended.Whole fault = end.Malformed fault
 end_after ended.WriteFault fault = end.WriteFault
@@ -169,7 +182,7 @@ pub record WritesReply (terms : Terms) (request : Request) (reply : Reply) (next
   pub next_is : next ≡ turn_after how request.last
 
 -- what a request asks for was answered, and so the link goes on
-pub record Replies (asks : Result Command Refusal) (terms : Terms) (request : Request) (next : Turn) (sink sink' : Outlet)
+pub record Replies (asks : Result Command Reply) (terms : Terms) (request : Request) (next : Turn) (sink sink' : Outlet)
     (gate gate' : Seen) (clock clock' : Readings) : Type 0 where
   pub reply : Reply
   pub reaches : Reaches asks gate gate' clock clock' reply
@@ -198,17 +211,23 @@ Meets terms request next sink sink' gate gate' clock clock' =
     × Looks terms wanted request next sink sink' gate gate' clock clock')
     ⊎ ((next ≡ turn.Stop end.NoMemory) × Untouched sink sink' gate gate' clock clock')
 
--- What follows on an answer of `read_request`: its request is answered, or stops the link; a malformed place is
--- answered by its rule; and else the link stops, and nothing is done.
+-- a fault was answered by its rule, and the link ends
+abbrev pub Refuses : HeadFault → Turn → Outlet → Outlet → Seen → Seen → Readings → Readings → Type 0
+Refuses fault next sink sink' gate gate' clock clock' = (how : Written)
+    × (next ≡ turn.Stop (end_after how fault)) × RefusesPlace fault how sink sink' × (gate' ≡ gate) × (clock' ≡ clock)
+
+-- What follows on an answer of `read_request`: its request is refused for its `Origin` (H5), or it is answered, or stops
+-- the link; a malformed place is answered by its rule; and else the link stops, and nothing is done.
 abbrev pub Follows : Terms → Got → Turn → Outlet → Outlet → Seen → Seen → Readings → Readings → Type 0
 Follows terms (got.Request request) next sink sink' gate gate' clock clock' =
-    Meets terms request next sink sink' gate gate' clock clock'
+    ((is_barred terms request ≡ false) × Meets terms request next sink sink' gate gate' clock clock')
+    ⊎ ((is_barred terms request ≡ true) × Refuses H5 next sink sink' gate gate' clock clock')
 Follows terms got.End next sink sink' gate gate' clock clock' =
     (next ≡ turn.Stop end.Ended) × Untouched sink sink' gate gate' clock clock'
 Follows terms (got.Cut count) next sink sink' gate gate' clock clock' =
     (next ≡ turn.Stop end.Cut) × Untouched sink sink' gate gate' clock clock'
-Follows terms (got.Malformed fault) next sink sink' gate gate' clock clock' = (how : Written)
-    × (next ≡ turn.Stop (end_after how fault)) × RefusesPlace fault how sink sink' × (gate' ≡ gate) × (clock' ≡ clock)
+Follows terms (got.Malformed fault) next sink sink' gate gate' clock clock' =
+    Refuses fault next sink sink' gate gate' clock clock'
 Follows terms got.ReadFault next sink sink' gate gate' clock clock' =
     (next ≡ turn.Stop end.ReadFault) × Untouched sink sink' gate gate' clock clock'
 Follows terms got.NoMemory next sink sink' gate gate' clock clock' =

@@ -162,8 +162,7 @@ Ends end.ReadFault stage sink sink' text = (stage ≡ ended end.ReadFault) × Ta
 Ends end.WriteFault stage sink sink' text = TakesFront sink sink' text × Rose sink.failures sink'.failures
 Ends end.NoMemory stage sink sink' text = TakesFront sink sink' text
 
--- A session of this key and this filter: what was done, where it stands then, and how it ended there. The boot word is
--- that of the ids of operations.
+-- A session of this key and this filter: what was done, where it stands then, and how it ended there.
 pub record Session (terms : Terms) (key : List ℕ) (filter : Filter) (source : Feed) (before : Seen) (sink : Outlet)
     (source' : Feed) (after : Seen) (sink' : Outlet) (ends : SessionEnd) : Type 0 where
   pub trail : List Doing

@@ -39,11 +39,11 @@ looked_for wanted = record {
 }
 
 -- what a request asks for at the gate: what its subscription does, or else its command
-abbrev pub asks_by : Option Subscription → Result Command Refusal → Result Command Refusal
+abbrev pub asks_by : Option Subscription → Result Command Reply → Result Command Reply
 asks_by (Some wanted) other = Ok (looked_for wanted)
 asks_by None other = other
 
-abbrev pub asks_of : Request → Terms → Result Command Refusal
+abbrev pub asks_of : Request → Terms → Result Command Reply
 asks_of request terms = asks_by (subscription_of request) (command_of request terms)
 
 -- whether a reply refuses what was asked for

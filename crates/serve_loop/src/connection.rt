@@ -26,7 +26,7 @@ pub enum ConnectionEnd {
 
 /// Serves a connection: its requests are answered one after the other (`serve_link`), and one that
 /// subscribes to events becomes a session of these (`event_session`), after which the connection
-/// ends. The boot word is that of the ids of operations. The log is told of each request.
+/// ends. The terms say how requests are read and replies are printed. The log is told of each request.
 pub fn serve_connection<T: Wait, G: Gate, S: Source, K: Sink, C: Clock, O: Log>(
     rt: &T,
     alloc: Global,

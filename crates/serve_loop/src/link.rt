@@ -3,19 +3,20 @@ ghost use Rattle.std.specs.Prelude.{◌≡◌, ◌⊎◌, ℕ, List, [], true, I
 ghost use Rattle.http_heads.specs.Messages.{Ending, Splits};
 ghost use Rattle.http_heads.specs.declared.request.Request.{Request as RequestValue};
 ghost use Rattle.size_values.specs.Causes.{Rose};
+ghost use Rattle.http_front.specs.Clocks.{Readings};
+ghost use Rattle.http_front.specs.declared.read.Got.TheVariants as found;
 ghost use Rattle.gates.specs.rest_answers.specs.Links.{inlet, outlet};
-ghost use Rattle.gates.specs.rest_answers.specs.Writing.{RefusesPlace};
-ghost use Rattle.gates.specs.Gates.{Between, seen};
+ghost use Rattle.gates.specs.Gates.{Between, Seen, seen};
 ghost use Rattle.gates.specs.History.{Item};
 ghost use Rattle.rest_routes.specs.Commands.{command_of};
-ghost use Rattle.serve_loop.specs.Serving.{Follows, Looks, Meets, Replies, Serving, ServingFrom, Turns, WritesReply};
-ghost use Rattle.serve_loop.specs.Serving.{end_after};
+ghost use Rattle.serve_loop.specs.Serving.{Follows, Looks, Meets, Refuses, Replies, Serving, ServingFrom, Turns};
+ghost use Rattle.serve_loop.specs.Serving.{WritesReply, end_after, is_barred};
 ghost use Rattle.serve_loop.specs.Serving.{link_world, turn_after};
 ghost use Rattle.serve_loop.specs.Texts.{IsFault, ServesText, reply_world};
 ghost use Rattle.serve_loop.specs.declared.link.LinkEnd.TheVariants as end;
 
 use crate::leave::next_message;
-use crate::log::{Log, code_of, rule_in, tell_malformed, tell_subscribed};
+use crate::log::{Log, code_of, rule_in, tell_fault, tell_subscribed};
 use crate::reply::reply_to;
 use crate::subscribing::{is_refusal, look_for};
 use crate::subscriptions::{Subscription, subscription_of};
@@ -36,7 +37,8 @@ pub enum LinkEnd {
     Ended,
     /// The source has ended within a request.
     Cut,
-    /// No request begins here. It was answered by its rule, and the connection ends.
+    /// No request begins here, or one was refused for its `Origin` (H5). It was answered by its rule, and the connection
+    /// ends.
     Malformed(HeadFault),
     /// A read failed.
     ReadFault,
@@ -71,7 +73,7 @@ fn turn_after(written: Written, last: bool) -> Turn
     }
 }
 
-/// How a link ends at a malformed place, from how the writing of its reply ended.
+/// How a link ends at a fault, from how the writing of its reply ended.
 fn end_after(written: Written, fault: HeadFault) -> LinkEnd
     ensures { result ≡ end_after written fault }
 {
@@ -175,20 +177,51 @@ fn serve_request<T: Wait, G: Gate, K: Sink, C: Clock, O: Log>(
     }
 }
 
-/// Answers a place in which no request can begin.
-fn refuse_place<K: Sink, O: Log>(
+/// Answers a place in which no request can begin, or a request, by its fault. The link ends.
+fn refuse<K: Sink, O: Log>(
     alloc: Global,
     sink: &mut K,
     log: &mut O,
+    request: Option<&Request>,
     fault: HeadFault,
-) -> Written
-    ensures { RefusesPlace fault result (outlet K.held K.failures sink.old)
-        (outlet K.held K.failures sink.new) }
+) -> Turn
+    ensures { (gate : Seen) (clock : Readings) → Refuses fault result (outlet K.held K.failures sink.old)
+        (outlet K.held K.failures sink.new) gate gate clock clock }
 {
     log.came();
     let written = write_refusal(alloc, sink, fault);
-    tell_malformed(alloc, log, fault, written);
-    written
+    tell_fault(alloc, log, request, fault, written);
+    Turn::Stop(end_after(written, fault))
+}
+
+/// Whether a request has an `Origin`, and is refused for it.
+fn is_barred(terms: Terms, request: &Request) -> bool
+    ensures { result ≡ is_barred terms request.now }
+{
+    terms.refuses_origin && request.origin
+}
+
+/// A turn of a link at the request that was read: it is refused for its `Origin`, or served.
+fn follow_request<T: Wait, G: Gate, K: Sink, C: Clock, O: Log>(
+    rt: &T,
+    alloc: Global,
+    router: &Router,
+    gate: &mut G,
+    sink: &mut K,
+    clock: &mut C,
+    request: &Request,
+    terms: Terms,
+    log: &mut O,
+) -> Turn
+    ensures { Follows terms (found.Request request.now) result (outlet K.held K.failures sink.old)
+        (outlet K.held K.failures sink.new) (seen G.contents G.turned G.idled gate.old)
+        (seen G.contents G.turned G.idled gate.new) (C.readings clock.old) (C.readings clock.new) }
+{
+    if is_barred(terms, request) {
+        refuse(alloc, sink, log, Some(request), HeadFault::H5)
+    } else {
+        serve_request(rt, alloc, router, gate, sink, clock, request, terms, log)
+    }
 }
 
 /// What follows on an answer of `read_request`.
@@ -211,15 +244,13 @@ fn follow<T: Wait, G: Gate, K: Sink, C: Clock, O: Log>(
 {
     match got {
         Got::Request(request) => {
-            let next = serve_request(rt, alloc, router, gate, sink, clock, &request, terms, log);
+            let next = follow_request(rt, alloc, router, gate, sink, clock, &request, terms, log);
             buffer.reuse(request);
             next
         }
         Got::End => Turn::Stop(LinkEnd::Ended),
         Got::Cut(_) => Turn::Stop(LinkEnd::Cut),
-        Got::Malformed(fault) => {
-            Turn::Stop(end_after(refuse_place(alloc, sink, log, fault), fault))
-        }
+        Got::Malformed(fault) => refuse(alloc, sink, log, None, fault),
         Got::ReadFault => Turn::Stop(LinkEnd::ReadFault),
         Got::NoMemory => Turn::Stop(LinkEnd::NoMemory),
     }
@@ -246,7 +277,7 @@ fn serve_next<T: Wait, G: Gate, S: Source, K: Sink, C: Clock, O: Log>(
         (outlet K.held K.failures sink.new) (seen G.contents G.turned G.idled gate.new)
         (C.readings clock.new)) }
 {
-    match next_message(alloc, buffer, source, sink) {
+    match next_message(alloc, buffer, source, sink, terms.refuses_origin) {
         Ok(got) => follow(rt, alloc, router, buffer, gate, sink, clock, got, terms, log),
         Err(SinkFailed) => Turn::Stop(LinkEnd::WriteFault),
     }
@@ -328,12 +359,13 @@ fn serve_from_empty<T: Wait, G: Gate, S: Source, K: Sink, C: Clock, O: Log>(
 }
 
 /// Answers the requests of a connection one after the other, each at the gate, and writes their
-/// replies (HTTP/1.1, RFC 9112, section 9), until one subscribes to events. That one asks for its
+/// replies (HTTP/1.1, RFC 9112, section 9), until one subscribes to events. One with an `Origin` is refused where the terms
+/// say so: nothing else is done of it, and the link ends. That one asks for its
 /// project first, and is answered as any other where it is refused. There is no limit to their
 /// number. A request asks for its command once, and a wait is looked at, and the gate idles once
 /// after each look that shows its operation live: until it has ended, until the clock is at the
-/// deadline, or until it idled a million times for the whole time of an idle. The boot word is that
-/// of the ids of operations. The log is told of each request once it is answered.
+/// deadline, or until it idled a million times for the whole time of an idle. The terms say how
+/// requests are read and replies are printed. The log is told of each request once it is answered.
 pub fn serve_link<T: Wait, G: Gate, S: Source, K: Sink, C: Clock, O: Log>(
     rt: &T,
     alloc: Global,

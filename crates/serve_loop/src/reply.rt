@@ -6,7 +6,7 @@ ghost use Rattle.gates.specs.Gates.{seen};
 ghost use Rattle.serve_loop.specs.Replying.{Reaches};
 
 use crate::wait::{ask, wait_of};
-use gates::{Gate, refused_reply};
+use gates::Gate;
 use http_front::{Clock, Request};
 use records::{Command, Reply};
 use rest_json::Terms;
@@ -53,6 +53,6 @@ pub fn reply_to<T: Wait, G: Gate, C: Clock>(
 {
     match router.route(alloc, request, terms) {
         Ok(command) => carry_out(rt, alloc, gate, clock, command),
-        Err(why) => refused_reply(why),
+        Err(reply) => reply,
     }
 }

@@ -73,7 +73,7 @@ fn go_on_from<T: Wait, G: Gate, S: Source, K: Sink>(
 /// pong with the same payload; a close by a close with the same code; what is no frame of a client, or a frame that is
 /// longer than 4,096 bytes, by a close; and others by nothing. It ends after a close; where an event that it has not got
 /// is no longer kept, and where its source has ended, each of which it tells by a close frame; and where its source or
-/// its sink fails. The boot word is that of the ids of operations.
+/// its sink fails.
 pub fn event_session<T: Wait, G: Gate, S: Source, K: Sink>(
     rt: &T,
     alloc: Global,
