@@ -3,7 +3,8 @@ pub fn run_help() -> &'static str {
     "incus_run: expected one of these commands:\n\
      \n\
      run [--steps N|all] [--db PATH|--journal PATH] [--fail-host LIST] [--fail-keeper LIST] [--now N] [--boot N]\n\
-     \x20   answers the requests on standard input\n\
+     \x20   [--dialect plain|client]\n\
+     \x20   answers the requests on standard input; --dialect client as the command incus reads and sends them\n\
      make SEED COUNT\n\
      \x20   writes requests that make COUNT instances\n\
      drill SEED COUNT [--db PATH|--journal PATH]\n\

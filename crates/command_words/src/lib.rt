@@ -21,6 +21,7 @@ pub use commands::{with_command, with_flag, with_option, with_positional, with_r
 pub use help::{run_help, serve_help};
 pub use numbers::number_said;
 pub use reading::{is_flagged, parse_words, value_of};
+pub use rest_json::Dialect;
 pub use rows_path::RowsPath;
 pub use run_laws::run_examples;
 pub use run_setup::{Setup, setup_of};
