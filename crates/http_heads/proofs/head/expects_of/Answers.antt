@@ -10,8 +10,8 @@ returns-in-Ok c =
     (ap framing (sym c.requires.fields) ∙ sym c.in-Ok.ensures.value)
     (c.leave_due.ensures
     ∙ ap₂ (leave_due c.args.refuses_origin)
-    (c.some_named.ensures ∙ ap (some_named (codes "origin")) c.requires.fields)
-    (c.expects_in.ensures ∙ ap₂ (expects_in c.in-Ok.body) c.requires.minor c.requires.fields))
+    (c.some_named-origin.ensures ∙ ap (some_named (codes "origin")) c.requires.fields)
+    (c.expects_in-expects.ensures ∙ ap₂ (expects_in c.in-Ok.body) c.requires.minor c.requires.fields))
 
 pub returns-in-Err : goal.returns-in-Err
 returns-in-Err c = TellsExpects-fault c.requires.is (ap framing (sym c.requires.fields) ∙ sym c.in-Err.ensures.value)
