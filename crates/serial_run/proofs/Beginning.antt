@@ -40,17 +40,20 @@ words_said words said is = record {
   dialect = sym (ap (λ o. option_map_or (λ (run : RunWords). run.dialect) (option_and_then as_run o) Plain) is);
 }
 
+-- the terms of a run of which this was read, with this boot word
+abbrev terms_said : RunWords → ℕ → Terms
+terms_said said word = record { boot = word; dialect = said.dialect; refuses_origin = false }
+
 -- a run on the terms and at the pace that were read
 pub as_said : (words : List (List ℕ)) (handed : ℕ) (said : RunWords) (word : ℕ) (before after : Outside) (status : ℕ)
     → AreSaid words said
     → word ≡ unwrap_or said.boot handed
-    → RunsOver (record { boot = word; dialect = said.dialect; refuses_origin = false }) said.pace before after status
+    → RunsOver (terms_said said word) said.pace before after status
     → RunsOver (terms_with words handed) (pace_of words) before after status
 as_said words handed said word before after status are is runs =
     subst (λ terms. RunsOver terms (pace_of words) before after status) same
-    (subst (λ pace. RunsOver (record { boot = word; dialect = said.dialect; refuses_origin = false }) pace before after status)
-    are.pace runs) where
-      same : record { boot = word; dialect = said.dialect; refuses_origin = false } ≡ terms_with words handed
+    (subst (λ pace. RunsOver (terms_said said word) pace before after status) are.pace runs) where
+      same : terms_said said word ≡ terms_with words handed
       same = λ i. record {
         boot = (is ∙ ap (λ said. unwrap_or said handed) are.boot) i;
         dialect = are.dialect i;

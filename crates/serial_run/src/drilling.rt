@@ -228,7 +228,9 @@ fn drill_from<K: Sink, R: Keeper, H: Host, C: Clock>(
         (C.readings clock.new) (outlet K.held K.failures sink.new) }
 {
     match Service::new(alloc, keeper) {
-        Ok(service) => drill_over(alloc, sink, keeper, host, clock, service, terms, seed, count),
+        Ok(service) => drill_over(
+            alloc, sink, keeper, host, clock, service, terms, seed, count,
+        ),
         Err(why) => {
             let status = open_status(&why);
             drop(why);

@@ -14,7 +14,7 @@ ghost use Rattle.command_words.specs.RunWords.{AreInRange, is_run, now_of, pace_
 ghost use Rattle.command_words.specs.declared.run_words.CommandWords.TheVariants as command_of;
 ghost use Rattle.serial_steps.specs.Steps.{hosted};
 ghost use Rattle.serial_run.specs.Most.{most_requests};
-ghost use Rattle.serial_run.specs.Does.{Does, IsReadyFor, drill_terms};
+ghost use Rattle.serial_run.specs.Does.{Does, IsReadyFor};
 ghost use Rattle.serial_run.specs.Runs.{Runs, RunsOver, SessionFrom, terms_with, seen_with};
 ghost use Rattle.serial_run.specs.Inputs.{status_of};
 ghost use Rattle.serial_run.specs.Texts.{RunsText, is_fault};
@@ -131,8 +131,9 @@ fn run_said<S: Source, K: Sink, R: Keeper, H: Host, C: Clock>(
         (outside (inlet S.left S.ended S.failures source.new) (outlet K.held K.failures sink.new)
         (R.store result.1) (hosted H.contents H.failures host.new) (C.readings clock.new)) result.0 }
 {
+    let boot = said.boot.unwrap_or(boot);
     let terms = Terms {
-        boot: said.boot.unwrap_or(boot),
+        boot,
         dialect: said.dialect,
         refuses_origin: false,
     };
@@ -144,17 +145,6 @@ fn run_said<S: Source, K: Sink, R: Keeper, H: Host, C: Clock>(
             )
         }
         None => run_over(alloc, source, sink, keeper, host, clock, terms, said.pace),
-    }
-}
-
-/// The terms of a drill: the plain dialect, with the boot word that is handed in.
-fn drill_terms(boot: u64) -> Terms
-    ensures { result ≡ drill_terms boot }
-{
-    Terms {
-        boot,
-        dialect: Dialect::Plain,
-        refuses_origin: false,
     }
 }
 
@@ -182,7 +172,11 @@ fn carry_out<S: Source, K: Sink, R: Keeper, H: Host, C: Clock>(
         }
         CommandWords::Make { seed, count } => (make(alloc, sink, seed, count), keeper),
         CommandWords::Drill { seed, count } => {
-            let terms = drill_terms(boot);
+            let terms = Terms {
+                boot,
+                dialect: Dialect::Plain,
+                refuses_origin: false,
+            };
             let status = drill(alloc, sink, &mut keeper, host, clock, terms, seed, count);
             (status, keeper)
         }

@@ -278,7 +278,9 @@ fn serve_next<T: Wait, G: Gate, S: Source, K: Sink, C: Clock, O: Log>(
         (C.readings clock.new)) }
 {
     match next_message(alloc, buffer, source, sink, terms.refuses_origin) {
-        Ok(got) => follow(rt, alloc, router, buffer, gate, sink, clock, got, terms, log),
+        Ok(got) => follow(
+            rt, alloc, router, buffer, gate, sink, clock, got, terms, log,
+        ),
         Err(SinkFailed) => Turn::Stop(LinkEnd::WriteFault),
     }
 }
