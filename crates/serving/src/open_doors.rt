@@ -2,7 +2,7 @@
 use crate::link::DoorKind;
 use crate::places::{DoorFault, Places};
 use crate::socket_file::SocketFile;
-use mio::{Events, Interest, Poll, Token, net};
+use mio::{Events, Interest, Poll, Token};
 use size_values::Text;
 use std::fs::Files;
 use std::io;
@@ -110,7 +110,7 @@ fn other_than(door: DoorKind) -> DoorKind {
 /// Listens on this port of 127.0.0.1.
 fn listener_at<N: Net>(net: &N, poll: &Poll, port: u16) -> Result<TcpListener, DoorFault> {
     let address = SocketAddr::from((Ipv4Addr::LOCALHOST, port));
-    let Ok(mut listener) = net::TcpListener::bind(net, address) else {
+    let Ok(mut listener) = mio::net::TcpListener::bind(net, address) else {
         return Err(DoorFault::Port);
     };
     match poll

@@ -1,7 +1,7 @@
 //! A socket file that is listened on.
 use crate::places::DoorFault;
 use mio::unix::SourceFd;
-use mio::{Interest, Poll, Token, net};
+use mio::{Interest, Poll, Token};
 use size_values::Text;
 use std::fs::{Files, Permissions};
 use std::io::ErrorKind;
@@ -111,7 +111,7 @@ fn make_room<N: Files + Net>(net: &N, path: &str, address: &SocketAddr) -> Resul
         Err(error) if error.kind() == ErrorKind::NotFound => return Ok(()),
         Err(error) => return Err(fault_of(error.kind())),
     }
-    match net::UnixStream::connect_addr(net, address) {
+    match mio::net::UnixStream::connect_addr(net, address) {
         Ok(stream) => {
             drop(stream);
             Err(DoorFault::Live)
