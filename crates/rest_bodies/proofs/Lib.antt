@@ -2,3 +2,4 @@ pub mod Counted
 pub mod FirstBad
 pub mod Found
 pub mod Spelled
+pub mod Removed

@@ -12,3 +12,4 @@ pub mod Origins
 pub mod Profiles
 pub mod Sent
 pub mod Settings
+pub mod Without

@@ -16,6 +16,7 @@ mod origins;
 mod profiles;
 mod sent;
 mod settings;
+mod without;
 
 pub use actions::action_at;
 pub use bodies::body_of;
@@ -25,3 +26,4 @@ pub use laws::names_first_bad;
 pub use members::{name_at, object_in};
 pub use origins::asks_for_copy;
 pub use sent::SentBody;
+pub use without::{with_own_snapshot, without_empty, without_start, without_untyped_source};

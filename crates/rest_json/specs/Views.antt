@@ -1,6 +1,6 @@
 -- Objects of all kinds as JSON.
 use Rattle.std.specs.Prelude.{ℕ, ◌-◌, ◌^◌, ◌==◌, min, if◌then◌else◌, List, [], ◌∷◌, Option, Some, None, true, false}
-use Rattle.std.specs.Prelude.{negsuc, codes}
+use Rattle.std.specs.Prelude.{negsuc, map, codes}
 use Rattle.size_values.specs.declared.kinds.Power.{Power}
 use Rattle.config_lists.specs.Settings.{Settings}
 use Rattle.config_lists.specs.Devices.{NamedDevices}
@@ -16,6 +16,8 @@ use Rattle.records.specs.declared.replies.View.{View}
 use Rattle.records.specs.declared.replies.View.TheVariants as shown
 use Rattle.serde_json.specs.Data.{Data, boolean, string, number, negative, object, Members, no_members, put}
 use Rattle.row_machine.specs.machine.StandingRules.{power_text}
+use Rattle.rest_json.specs.declared.terms.Dialect.{Dialect}
+use Rattle.rest_json.specs.declared.terms.Dialect.TheVariants as dialect
 use Rattle.rest_json.specs.declared.terms.Terms.{Terms}
 use Rattle.rest_json.specs.Words.{power_code, instance_kind, driver_text, limit_name}
 use Rattle.rest_json.specs.Moments.{moment_text}
@@ -23,10 +25,19 @@ use Rattle.rest_json.specs.Objects.{object_of, list_of, whole}
 use Rattle.rest_json.specs.Settings.{settings_data, devices_data, texts_data}
 use Rattle.rest_json.specs.Operations.{operation_data}
 
+-- what the command `incus` is told that this server has; it asks for nothing of which it is not told
+abbrev pub extensions : Dialect → List (List ℕ)
+extensions dialect.Plain = []
+extensions dialect.Client =
+    codes "api_filtering" ∷ codes "container_full" ∷ codes "instance_nic_network" ∷ codes "network"
+    ∷ codes "network_acl" ∷ codes "network_dns" ∷ codes "network_forward" ∷ codes "project_usage"
+    ∷ codes "projects" ∷ codes "storage" ∷ codes "storage_api_local_volume_handling"
+    ∷ codes "storage_api_volume_rename" ∷ codes "storage_buckets" ∷ codes "warnings" ∷ []
+
 -- the server
-unfoldable pub server_data : Data
-server_data = object_of (
-    (codes "api_extensions", list_of [])
+unfoldable pub server_data : Dialect → Data
+server_data dialect = object_of (
+    (codes "api_extensions", list_of (map string (extensions dialect)))
     ∷ (codes "api_status", string (codes "stable"))
     ∷ (codes "api_version", string (codes "1.0"))
     ∷ (codes "auth", string (codes "trusted"))
@@ -157,7 +168,7 @@ usage_data lines = object_of ((codes "resources", lines_data lines) ∷ [])
 
 -- an object of any kind
 abbrev pub view_data : Terms → View → Data
-view_data terms shown.Server = server_data
+view_data terms shown.Server = server_data terms.dialect
 view_data terms (shown.Project project used) = project_data project used
 view_data terms (shown.Profile profile used) = profile_data profile used
 view_data terms (shown.Network network used) = network_data network used

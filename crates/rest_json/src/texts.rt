@@ -8,7 +8,7 @@ ghost use Rattle.rest_json.specs.Views.{volume_data, instance_data, expiry_text,
 ghost use Rattle.rest_json.specs.Views.{usage_data, view_data};
 
 use crate::operation::operation_value;
-use crate::terms::Terms;
+use crate::terms::{Dialect, Terms};
 use crate::text::JsonText;
 use crate::views::{expiry_text, usage_value};
 use crate::words::{driver_text, instance_kind, power_code, power_text};
@@ -19,14 +19,19 @@ use records::{
 use size_values::{NoMemory, Power, Seq, Text};
 use std::alloc::Global;
 
-/// The server.
+/// The server, and in the client's dialect what the command `incus` asks for only where it is told that it is there.
 #[tactic(auto, unfolding(crate::specs::Views::server_data, json::specs::Print::escape_byte))]
-fn write_server(text: JsonText) -> Result<JsonText, NoMemory>
-    ensures { IfOk result (λ t. t ≡ text ++ compact_text server_data) }
+fn server_text(dialect: Dialect) -> &'static str
+    ensures { result.now ≡ compact_text (server_data dialect) }
 {
-    text.plain(
-        "{\"api_extensions\":[],\"api_status\":\"stable\",\"api_version\":\"1.0\",\"auth\":\"trusted\",\"public\":false}",
-    )
+    match dialect {
+        Dialect::Plain => {
+            "{\"api_extensions\":[],\"api_status\":\"stable\",\"api_version\":\"1.0\",\"auth\":\"trusted\",\"public\":false}"
+        }
+        Dialect::Client => {
+            "{\"api_extensions\":[\"api_filtering\",\"container_full\",\"instance_nic_network\",\"network\",\"network_acl\",\"network_dns\",\"network_forward\",\"project_usage\",\"projects\",\"storage\",\"storage_api_local_volume_handling\",\"storage_api_volume_rename\",\"storage_buckets\",\"warnings\"],\"api_status\":\"stable\",\"api_version\":\"1.0\",\"auth\":\"trusted\",\"public\":false}"
+        }
+    }
 }
 
 /// A project, with the URLs of what it has.
@@ -238,7 +243,7 @@ pub fn write_view(
     ensures { IfOk result (λ t. t ≡ text ++ compact_text (view_data terms shown.now)) }
 {
     match shown {
-        View::Server => write_server(text),
+        View::Server => text.plain(server_text(terms.dialect)),
         View::Project(row, used) => write_project(text, row, used),
         View::Profile(row, used) => write_profile(text, row, used),
         View::Network(row, used) => write_network(text, row, used),

@@ -11,10 +11,11 @@ use Rattle.serde_json.specs.Data.{Data, string, Members, no_members, put}
 use Rattle.serde_json.specs.Written.{has_float, members_have_float}
 use Rattle.rest_replies.specs.declared.refusals.Part.{Part}
 use Rattle.rest_replies.specs.declared.refusals.Part.TheVariants as part
+use Rattle.rest_json.specs.declared.terms.Dialect.{Dialect}
 use Rattle.rest_json.specs.Words.{status_key}
 use Rattle.rest_json.specs.Ids.{operation_url}
 use Rattle.rest_json.specs.Operations.{operation_data}
-use Rattle.rest_replies.specs.Refusals.{rule_name, details_parts, part_key, part_data, put_parts, details_data, refusal_data}
+use Rattle.rest_replies.specs.Refusals.{Phrase, rule_name, phrases_of, part_key, part_data, put_parts, details_data, refusal_data}
 use Rattle.rest_replies.specs.Replies.{urls_data, put_urls, by_status, operations_data, put_operations, whole_by_status}
 use Rattle.rest_replies.specs.Notices.{life_data, event_data, notice_data}
 use Rattle.rest_json.proofs.Floatless.{put_plain, items_plain}
@@ -32,17 +33,17 @@ part_plain details part.Number = refl
 part_plain details part.Project = refl
 part_plain details part.Used = refl
 
-put_parts_plain : (details : Details) (parts : List Part) (ms : Members) → members_have_float ms ≡ false → members_have_float (put_parts details parts ms) ≡ false
+put_parts_plain : (details : Details) (phrases : List Phrase) (ms : Members) → members_have_float ms ≡ false → members_have_float (put_parts details phrases ms) ≡ false
 put_parts_plain details [] ms all = all
-put_parts_plain details (x ∷ xs) ms all = put_parts_plain details xs (put (part_key x) (part_data details x) ms) (put_plain (part_key x) (part_data details x) ms (part_plain details x) all)
+put_parts_plain details (x ∷ xs) ms all = put_parts_plain details xs (put (part_key x.1) (part_data details x.1) ms) (put_plain (part_key x.1) (part_data details x.1) ms (part_plain details x.1) all)
 
 details_plain : (r : Refusal) → has_float (details_data r) ≡ false
 unfolding details_data
-details_plain r = put_parts_plain r.details (details_parts r.rule) (put (codes "rule") (string (rule_name r.rule)) no_members) refl
+details_plain r = put_parts_plain r.details (phrases_of r.rule) (put (codes "rule") (string (rule_name r.rule)) no_members) refl
 
-pub refusal_plain : (r : Refusal) → has_float (refusal_data r) ≡ false
+pub refusal_plain : (dialect : Dialect) (r : Refusal) → has_float (refusal_data dialect r) ≡ false
 unfolding refusal_data
-refusal_plain r = rw (details_plain r) refl
+refusal_plain dialect r = rw (details_plain r) refl
 
 -- ---- replies
 

@@ -19,6 +19,8 @@ use Rattle.rest_json.specs.Objects.{object_of, list_of, whole}
 use Rattle.rest_json.specs.Settings.{texts_data}
 use Rattle.rest_json.specs.Operations.{operation_data}
 use Rattle.rest_json.specs.Views.{view_data}
+use Rattle.rest_json.specs.declared.terms.Dialect.{Dialect}
+use Rattle.rest_json.specs.declared.terms.Dialect.TheVariants as dialect
 use Rattle.rest_json.specs.declared.terms.Terms.{Terms}
 use Rattle.rest_replies.specs.Refusals.{rule_code, refusal_data}
 
@@ -73,17 +75,23 @@ whole_by_status boot groups = object (put_operations boot groups no_members)
 abbrev pub no_memory_refusal : Refusal
 no_memory_refusal = record { rule = rule.M1; details = no_details }
 
+-- What is told where a command tells nothing. The command `incus` takes the rename of a project for one that goes on,
+-- and asks what is told for its status.
+abbrev pub nothing_data : Dialect → Data
+nothing_data dialect.Plain = object no_members
+nothing_data dialect.Client = object_of ((codes "status_code", whole 200) ∷ [])
+
 -- the body of a reply
 abbrev pub reply_data : Terms → Reply → Data
-reply_data terms reply.Empty = success_data (object no_members)
+reply_data terms reply.Empty = success_data (nothing_data terms.dialect)
 reply_data terms (reply.Links urls) = success_data (texts_data urls)
 reply_data terms (reply.One shown) = success_data (view_data terms shown)
 reply_data terms (reply.Many views) = success_data (list_of (map (view_data terms) views))
 reply_data terms (reply.OpLinks groups) = success_data (by_status terms.boot groups)
 reply_data terms (reply.OpMany groups) = success_data (whole_by_status terms.boot groups)
 reply_data terms (reply.Started operation) = started_data terms.boot operation
-reply_data terms (reply.Refused refusal) = refusal_data refusal
-reply_data terms reply.NoMemory = refusal_data no_memory_refusal
+reply_data terms (reply.Refused refusal) = refusal_data terms.dialect refusal
+reply_data terms reply.NoMemory = refusal_data terms.dialect no_memory_refusal
 
 -- the HTTP status code of a reply
 abbrev pub reply_code : Reply → ℕ
@@ -110,7 +118,7 @@ abbrev pub is_server : View → Bool
 is_server view.Server = true
 is_server other = false
 
--- whether a reply depends on nothing: it tells nothing, or of the server alone
+-- whether a reply depends on nothing but the dialect: it tells nothing, or of the server alone
 abbrev pub depends_on_nothing : Reply → Bool
 depends_on_nothing reply.Empty = true
 depends_on_nothing (reply.One shown) = is_server shown

@@ -9,7 +9,7 @@ mod printing;
 mod refusals;
 
 pub use known::{known_reply, server_text};
-pub use laws::no_memory_is_known;
+pub use laws::{no_memory_is_known, refusals_in_words};
 pub use notices::print_notice;
 pub use printing::print;
 pub use refusals::rule_name;

@@ -1,14 +1,13 @@
 //! Replies: the code, the Location and the body of each.
 ghost use Rattle.std.specs.Prelude.{◌≡◌, ◌++◌, [], false, map, IfOk, IsTrue};
 ghost use Rattle.http_front.specs.Replies.{is_reply_code};
-ghost use Rattle.serde_json.specs.Data.{object, no_members};
 ghost use Rattle.serde_json.specs.View.{view};
 ghost use Rattle.serde_json.specs.Written.{has_float, compact_text};
 ghost use Rattle.rest_json.specs.Objects.{list_of};
 ghost use Rattle.rest_json.specs.Settings.{texts_data};
 ghost use Rattle.rest_json.specs.Views.{view_data};
 ghost use Rattle.rest_replies.specs.Refusals.{refusal_data};
-ghost use Rattle.rest_replies.specs.Replies.{success_data, started_data, urls_data, by_status, operations_data};
+ghost use Rattle.rest_replies.specs.Replies.{success_data, nothing_data, started_data, urls_data, by_status, operations_data};
 ghost use Rattle.rest_replies.specs.Replies.{whole_by_status, no_memory_refusal, reply_data, reply_code};
 ghost use Rattle.rest_replies.specs.Replies.{reply_location, printed_of};
 
@@ -16,7 +15,7 @@ use crate::refusals::{refusal_value, rule_code};
 use http_front::Printed;
 use records::{Details, OpView, Refusal, Reply, Rule, Status, View};
 use rest_json::{
-    JsonText, Object, Terms, operation_url, operation_value, status_key, write_operation,
+    Dialect, JsonText, Object, Terms, operation_url, operation_value, status_key, write_operation,
     write_view,
 };
 use serde_json::Value;
@@ -40,13 +39,23 @@ fn told_body(alloc: Global, told: &Value) -> Result<Seq<u8>, NoMemory>
     Ok(text.into_bytes())
 }
 
+/// What is told where a command tells nothing.
+fn nothing_text(dialect: Dialect) -> &'static str
+    ensures { result.now ≡ compact_text (nothing_data dialect) }
+{
+    match dialect {
+        Dialect::Plain => "{}",
+        Dialect::Client => "{\"status_code\":200}",
+    }
+}
+
 /// The reply to a command that tells nothing.
-fn empty_body(alloc: Global) -> Result<Seq<u8>, NoMemory>
-    ensures { IfOk result (λ b. b ≡ compact_text (success_data (object no_members))) }
+fn empty_body(alloc: Global, dialect: Dialect) -> Result<Seq<u8>, NoMemory>
+    ensures { IfOk result (λ b. b ≡ compact_text (success_data (nothing_data dialect))) }
 {
     let text = JsonText::new(alloc, 128)?
         .plain(FRONT)?
-        .plain("{}")?
+        .plain(nothing_text(dialect))?
         .plain(BACK)?;
     Ok(text.into_bytes())
 }
@@ -216,10 +225,10 @@ fn whole_by_status_body(
 
 /// The reply that refuses a command.
 #[tactic(auto, using(crate::proofs::Plain::refusal_plain))]
-fn refused_body(alloc: Global, refusal: &Refusal) -> Result<Seq<u8>, NoMemory>
-    ensures { IfOk result (λ b. b ≡ compact_text (refusal_data refusal.now)) }
+fn refused_body(alloc: Global, dialect: Dialect, refusal: &Refusal) -> Result<Seq<u8>, NoMemory>
+    ensures { IfOk result (λ b. b ≡ compact_text (refusal_data dialect refusal.now)) }
 {
-    let value = refusal_value(alloc, refusal)?;
+    let value = refusal_value(alloc, dialect, refusal)?;
     let text = JsonText::new(alloc, 256)?.value(&value)?;
     Ok(text.into_bytes())
 }
@@ -229,15 +238,15 @@ fn reply_body(alloc: Global, terms: Terms, reply: &Reply) -> Result<Seq<u8>, NoM
     ensures { IfOk result (λ b. b ≡ compact_text (reply_data terms reply.now)) }
 {
     match reply {
-        Reply::Empty => empty_body(alloc),
+        Reply::Empty => empty_body(alloc, terms.dialect),
         Reply::Links(urls) => urls_body(alloc, urls),
         Reply::One(shown) => one_body(alloc, terms, shown),
         Reply::Many(views) => many_body(alloc, terms, views),
         Reply::OpLinks(groups) => by_status_body(alloc, terms.boot, groups),
         Reply::OpMany(groups) => whole_by_status_body(alloc, terms.boot, groups),
         Reply::Started(operation) => started_body(alloc, terms.boot, operation),
-        Reply::Refused(refusal) => refused_body(alloc, refusal),
-        Reply::NoMemory => refused_body(alloc, &no_memory_refusal(alloc)),
+        Reply::Refused(refusal) => refused_body(alloc, terms.dialect, refusal),
+        Reply::NoMemory => refused_body(alloc, terms.dialect, &no_memory_refusal(alloc)),
     }
 }
 

@@ -1,6 +1,6 @@
 -- The command of each request is formed.
+use Rattle.std.specs.Prelude.{ok_or}
 use Rattle.std.proofs.Common.{◌≡◌, ℕ, true, List, Option, Result, Ok, Err, IfOk, IsTrue}
-use Rattle.serde_json.specs.Data.{Data}
 use Rattle.http_heads.specs.declared.request.Request.{Request}
 use Rattle.records.specs.Forms.{is_timeout, is_formed}
 use Rattle.records.specs.declared.commands.Command.{Command}
@@ -11,12 +11,12 @@ use Rattle.records.specs.declared.replies.Reply.{Reply}
 use Rattle.rest_json.specs.declared.terms.Terms.{Terms}
 use Rattle.rest_routes.proofs.Timeouts.{timeout_formed}
 use Rattle.rest_routes.specs.Answers.{Reads, mapped, followed}
-use Rattle.rest_routes.specs.Paths.{path_of, query_of}
+use Rattle.rest_routes.specs.Paths.{path_of}
 use Rattle.rest_routes.specs.Endpoints.{line_of, verb_offered}
-use Rattle.rest_routes.specs.Queries.{query_from_text, project_of, wait_timeout}
-use Rattle.rest_routes.specs.declared.endpoints.Endpoint.{Endpoint}
-use Rattle.rest_routes.specs.declared.endpoints.Verb.{Verb}
-use Rattle.rest_routes.specs.Commands.{sent_body, command_at, command_of, plain_command, told}
+use Rattle.rest_routes.specs.Leniencies.{Asked, as_plain}
+use Rattle.rest_routes.specs.Queries.{query_of, project_of, wait_timeout}
+use Rattle.rest_routes.specs.declared.endpoints.Line.{Line}
+use Rattle.rest_routes.specs.Commands.{asked_at, command_at, command_of, plain_command, told}
 use Rattle.rest_routes.specs.Routed.{RoutedIsFormed}
 use Rattle.rest_routes.specs.WithBody.{needed}
 use Rattle.rest_routes.proofs.FormedRequests.{AnswerIsFormed, asked_formed}
@@ -41,25 +41,29 @@ after_any : {A : Type 0} (r : Result A Refusal) (f : A → Result Command Refusa
 after_any (Ok x) f fine = fine x
 after_any (Err refusal) f fine = tt
 
-at_endpoint : (endpoint : Endpoint) (verb : Verb) (path query_text : List ℕ) (sent : Option Data) (boot : ℕ) → CommandIsFormed (command_at endpoint verb path query_text sent boot)
-unfolding command_at
-at_endpoint endpoint verb path query_text sent boot =
-    after_good (λ query. is_timeout (wait_timeout query) ≡ true) (query_from_text query_text) _ (timeout_formed query_text) (λ query time.
-    in_project (project_of query) _ (asked_formed endpoint verb path query boot sent time))
-
-plain_formed : (request : Request) (boot : ℕ) → CommandIsFormed (plain_command request boot)
+plain_formed : (asked : Asked) (boot : ℕ) → CommandIsFormed (plain_command asked boot)
 unfolding plain_command
-plain_formed request boot =
-    after_any (needed rule.A1 (line_of (path_of request.target))) _ (λ line.
-    after_any (needed rule.A2 (verb_offered line request.method)) _ (λ verb.
-    at_endpoint line.endpoint verb (path_of request.target) (query_of request.target) (sent_body verb request.body) boot))
+plain_formed asked boot =
+    after_good (λ query. is_timeout (wait_timeout query) ≡ true) (query_of asked.pairs) _ (timeout_formed asked.pairs) (λ query time.
+    in_project (project_of query) _ (asked_formed asked.endpoint asked.verb asked.path query boot asked.body time))
+
+at_line : (line : Line) (request : Request) (terms : Terms) → CommandIsFormed (command_at line request terms)
+unfolding command_at
+at_line line request terms =
+    after_any (needed rule.A2 (verb_offered line request.method)) _ (λ verb. plain_formed (as_plain terms.dialect (asked_at line verb request)) terms.boot)
+
+-- what is told is formed, where the command is
+told_formed : (answer : Result Command Refusal) → CommandIsFormed answer → IfOk (told answer) (λ command. IsTrue (is_formed command))
+told_formed (Ok command) h = h
+told_formed (Err refusal) h = tt
 
 pub routed_formed : RoutedIsFormed
-routed_formed request terms = by (plain_command request terms.boot) (plain_formed request terms.boot)
+unfolding command_of
+routed_formed request terms = by (ok_or (line_of (path_of request.target)) _)
   where
-    by : (answer : Result Command Refusal) → CommandIsFormed answer → IfOk (told answer) (λ command. IsTrue (is_formed command))
-    by (Ok command) h = h
-    by (Err refusal) h = tt
+    by : (found : Result Line Reply) → IfOk (followed found (λ line. told (command_at line request terms))) (λ command. IsTrue (is_formed command))
+    by (Ok line) = told_formed (command_at line request terms) (at_line line request terms)
+    by (Err said) = tt
 
 -- a command that a function returns is formed
 pub formed_due : (result : Result Command Reply) (request : Request) (terms : Terms) → Reads result (command_of request terms) → IfOk result (λ c. IsTrue (is_formed c))

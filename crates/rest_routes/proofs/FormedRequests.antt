@@ -24,7 +24,7 @@ use Rattle.rest_routes.specs.declared.endpoints.Endpoint.TheVariants as endpoint
 use Rattle.rest_routes.specs.declared.endpoints.Verb.{Verb}
 use Rattle.rest_routes.specs.declared.endpoints.Verb.TheVariants as verb
 use Rattle.rest_routes.specs.declared.query.Query.{Query}
-use Rattle.rest_routes.specs.Commands.{what_of}
+use Rattle.rest_routes.specs.Commands.{what_at}
 use Rattle.rest_routes.specs.Shapes.{rename_shape, change_shape, object_shape, shape_of}
 use Rattle.rest_routes.specs.Targets.{object_of, objects_of, operation_at}
 use Rattle.rest_routes.specs.WithBody.{needed, unless_fault, put_from_body, what_from_body, what_with_body}
@@ -80,6 +80,7 @@ read_formed endpoint.Usage verb path query boot time = refl
 read_formed endpoint.State verb path query boot time = refl
 read_formed endpoint.Wait verb path query boot time = found_formed _ (operation_at path boot) (λ op. time)
 read_formed endpoint.Events verb path query boot time = tt
+read_formed endpoint.Empty verb path query boot time = tt
 
 -- ---- requests that send a body
 
@@ -183,6 +184,7 @@ module _ (path : List ℕ) (body : Data) where
   said_formed endpoint.Usage verb = tt
   said_formed endpoint.Wait verb = tt
   said_formed endpoint.Events verb = tt
+  said_formed endpoint.Empty verb = tt
 
 sent_formed : (endpoint : Endpoint) (verb : Verb) (path : List ℕ) (sent : Option Data) → AnswerIsFormed (what_with_body endpoint verb path sent)
 unfolding what_with_body
@@ -192,7 +194,7 @@ sent_formed endpoint verb path (Some body) = said_formed path body endpoint verb
 -- ---- both
 
 pub asked_formed : (endpoint : Endpoint) (verb : Verb) (path : List ℕ) (query : Query) (boot : ℕ) (sent : Option Data) → is_timeout (wait_timeout query) ≡ true
-    → AnswerIsFormed (what_of endpoint verb path query boot sent)
+    → AnswerIsFormed (what_at endpoint verb path query boot sent)
 asked_formed endpoint verb path query boot sent time = by (has_body verb) (sent_formed endpoint verb path sent) (read_formed endpoint verb path query boot time)
   where
     by : (b : Bool) → AnswerIsFormed (what_with_body endpoint verb path sent) → AnswerIsFormed (what_without_body endpoint verb path query boot)

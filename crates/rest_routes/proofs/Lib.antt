@@ -13,3 +13,5 @@ mod FormedProfiles
 mod FormedRequests
 mod FormedSettings
 mod Hosts
+mod InPlain
+pub mod Passing

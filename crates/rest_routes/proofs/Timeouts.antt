@@ -17,7 +17,7 @@ use Rattle.records.specs.declared.refusals.Refusal.{Refusal}
 use Rattle.rest_routes.specs.Answers.{followed}
 use Rattle.records.specs.declared.refusals.Rule.TheVariants as rule
 use Rattle.rest_routes.specs.Refusals.{on_key}
-use Rattle.rest_routes.specs.Queries.{text_of, project_after, recursion_of, has_leading_zero, timeout_seconds, timeout_of, types_of, no_query, flags_after, query_after, query_in, query_from_text, wait_timeout}
+use Rattle.rest_routes.specs.Queries.{text_of, project_after, recursion_of, has_leading_zero, timeout_seconds, timeout_of, types_of, no_query, flags_after, query_after, query_in, query_of, wait_timeout}
 use Rattle.rest_routes.specs.declared.query.Flags.{Flags}
 use Rattle.rest_routes.specs.declared.query.Query.{Query}
 use Rattle.rest_routes.specs.declared.query.Types.{Types}
@@ -125,9 +125,8 @@ pairs_fine ((key, value) ∷ pairs) query h =
     next_fine (query_after query (text_of key) (text_of value)) _ (query_fine query (text_of key) (text_of value) h) (λ next k. pairs_fine pairs next k)
 
 -- the time to wait that a query says, or that is meant where it says none
-pub timeout_formed : (text : List ℕ) → IfOk (query_from_text text) (λ query. is_timeout (wait_timeout query) ≡ true)
-unfolding query_from_text
-timeout_formed text = by (query_in no_query (raw_pairs text)) (pairs_fine (raw_pairs text) no_query refl)
+pub timeout_formed : (pairs : List (List ℕ × List ℕ)) → IfOk (query_of pairs) (λ query. is_timeout (wait_timeout query) ≡ true)
+timeout_formed pairs = by (query_of pairs) (pairs_fine pairs no_query refl)
   where
     asked : (timeout : Option ℤ) → is_fine timeout ≡ true → is_timeout (unwrap_or timeout (negsuc 0)) ≡ true
     asked None h = refl

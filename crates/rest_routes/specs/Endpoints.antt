@@ -10,7 +10,7 @@ use Rattle.matchit.specs.Router.{RouteOf, route_from, nearest}
 use Rattle.matchit.specs.Rows.{RowsOf}
 use Rattle.matchit.specs.Seek.{first}
 use Rattle.matchit.specs.declared.error.InsertError.{InsertError}
-use Rattle.rest_routes.specs.declared.endpoints.TheConstants.{ROUTES}
+use Rattle.rest_routes.specs.declared.endpoints.TheConstants.{EMPTY_LISTS, ROUTES}
 use Rattle.rest_routes.specs.declared.endpoints.Line.{Line}
 use Rattle.rest_routes.specs.declared.endpoints.Methods.{Methods}
 use Rattle.rest_routes.specs.declared.endpoints.Endpoint.{Endpoint}
@@ -60,6 +60,20 @@ rows = rows_after routes []
 -- the line of the table that a path belongs to, if it is listed
 unfoldable pub line_of : List ℕ → Option Line
 line_of path = option_map (λ route. route.value) (first rows path)
+
+-- ---- lists that are always empty here
+
+-- the paths of lists of what Incus has and this server has not
+unfoldable pub empty_lists : List (List ℕ × Line)
+empty_lists = map (λ route. (route.0.now, line_with route.1 route.2)) EMPTY_LISTS.now
+
+-- the rows of the router that knows these paths
+unfoldable pub empty_rows : PathRows
+empty_rows = rows_after empty_lists []
+
+-- the line of such a list
+unfoldable pub empty_line_of : List ℕ → Option Line
+empty_line_of path = option_map (λ route. route.value) (first empty_rows path)
 
 -- events stand at this path and at no other
 abbrev pub EventsStandAtOnePath : Type 0

@@ -6,6 +6,8 @@ pub mod Queries
 pub mod Refusals
 pub mod Commands
 pub mod Known
+pub mod Leniencies
+pub mod LeniencyExamples
 pub mod Routed
 pub mod Shapes
 pub mod Targets

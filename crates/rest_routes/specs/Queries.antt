@@ -1,6 +1,6 @@
 -- What the query of a target says.
 use Rattle.std.specs.Prelude.{ℕ, ◌==◌, ◌&&◌, ◌||◌, ℤ, pos, negsuc, nat_lt, Bool, true, false, not, List, [], ◌∷◌}
-use Rattle.std.specs.Prelude.{length, slice_index, Option, Some, None, Result, Ok, ok_or, option_map, unwrap_or}
+use Rattle.std.specs.Prelude.{filter, length, slice_index, Option, Some, None, Result, Ok, ok_or, option_map, unwrap_or}
 use Rattle.std.specs.Prelude.{is_some, if◌then◌else◌, codes}
 use Rattle.std.specs.List.{list_all, list_any, slice_split}
 use Rattle.std.specs.Result.{result_ok}
@@ -99,9 +99,21 @@ query_in query [] = Ok query
 query_in query ((key, value) ∷ pairs) =
     followed (query_after query (text_of key) (text_of value)) (λ next. query_in next pairs)
 
--- what a query says, or the refusal of its first bad pair
+-- `filter=`, which filters nothing
+abbrev pub is_empty_filter : List ℕ × List ℕ → Bool
+is_empty_filter pair = bytes_eq (text_of pair.0) (codes "filter") && bytes_eq (text_of pair.1) []
+
+-- the pairs, without empty filters where these are passed over
+abbrev pub pairs_passing : Bool → List (List ℕ × List ℕ) → List (List ℕ × List ℕ)
+pairs_passing passed pairs = filter (λ pair. not (passed && is_empty_filter pair)) pairs
+
+-- what pairs say, or the refusal of the first bad one
+abbrev pub query_of : List (List ℕ × List ℕ) → Result Query Refusal
+query_of pairs = query_in no_query pairs
+
+-- what a query says
 unfoldable pub query_from_text : List ℕ → Result Query Refusal
-query_from_text text = query_in no_query (raw_pairs text)
+query_from_text text = query_of (raw_pairs text)
 
 -- the project that is asked in, which is `default` where the query names none
 abbrev pub project_of : Query → List ℕ

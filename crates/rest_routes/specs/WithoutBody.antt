@@ -32,7 +32,8 @@ abbrev pub get_or_delete_at : ObjectKind → Verb → List ℕ → ℕ → Resul
 get_or_delete_at kind.Operation verb path boot = mapped (get_or_cancel verb) (operation_at path boot)
 get_or_delete_at kind verb path boot = Ok (get_or_delete verb (object_of kind path))
 
--- What GET and DELETE ask for at an endpoint. Events are not sent to a client that speaks HTTP alone.
+-- What GET and DELETE ask for at an endpoint. Events are not sent to a client that speaks HTTP alone, and no command asks
+-- for a list that is always empty.
 abbrev pub what_without_body : Endpoint → Verb → List ℕ → Query → ℕ → Result What Refusal
 what_without_body endpoint.Root verb path query boot = Ok what.Root
 what_without_body endpoint.Server verb path query boot = Ok what.Server
@@ -44,3 +45,4 @@ what_without_body endpoint.State verb path query boot = Ok (what.State (object_o
 what_without_body endpoint.Wait verb path query boot =
     mapped (λ op. what.Wait op (wait_timeout query)) (operation_at path boot)
 what_without_body endpoint.Events verb path query boot = Err (plain_refusal rule.A6)
+what_without_body endpoint.Empty verb path query boot = Err (plain_refusal rule.A1)

@@ -1,12 +1,19 @@
 //! The command of a request, or the refusal of its form.
-ghost use Rattle.std.specs.Prelude.{◌≡◌, IfOk, option_map};
+ghost use Rattle.std.specs.Prelude.{◌≡◌, ◌⊎◌, None, IfOk, if◌then◌else◌, option_map};
 ghost use Rattle.serde_json.specs.View.{view};
+ghost use Rattle.records.specs.declared.replies.Reply.TheVariants as reply;
+ghost use Rattle.rest_bodies.specs.Members.{object_in};
 ghost use Rattle.rest_routes.specs.Answers.{Gives, Reads};
-ghost use Rattle.rest_routes.specs.Commands.{sent_body, what_of, command_at, plain_command, command_of};
+ghost use Rattle.rest_routes.specs.Commands.{asked_at, command_at, command_of, unlisted, what_at};
+ghost use Rattle.rest_routes.specs.Endpoints.{has_body};
+ghost use Rattle.rest_routes.specs.Leniencies.{body_in};
+ghost use Rattle.rest_routes.specs.Paths.{path_of, query_of};
+ghost use Rattle.rest_routes.specs.Refusals.{plain_refusal};
 
-use crate::endpoints::{Endpoint, Verb, has_body, verb_offered};
+use crate::endpoints::{Endpoint, Line, Verb, has_body, verb_offered};
+use crate::leniencies::{body_in, query_in};
 use crate::paths::split_target;
-use crate::query::{Query, project_of, query_from_text};
+use crate::query::{Query, project_of};
 use crate::refusals::plain_refusal;
 use crate::table::PathTable;
 use crate::with_body::what_with_body;
@@ -14,22 +21,33 @@ use crate::without_body::what_without_body;
 use http_heads::Request;
 use records::{Command, Refusal, Reply, Rule, What};
 use rest_bodies::object_in;
-use rest_json::Terms;
+use rest_json::{Dialect, Terms};
 use serde_json::Value;
-use size_values::{NoMemory, Or};
+use size_values::{NoMemory, Or, Seq};
 use std::alloc::Global;
 
-/// The object that a body spells, if the method sends one.
-fn sent_body(alloc: Global, verb: Verb, body: &[u8]) -> Result<Option<Value>, NoMemory>
-    ensures { IfOk result (λ sent. option_map view sent ≡ sent_body verb body.now) }
+/// The object that a body spells, read in a dialect, if the method sends one.
+fn sent_body(
+    alloc: Global,
+    dialect: Dialect,
+    endpoint: Endpoint,
+    verb: Verb,
+    path: &str,
+    body: &[u8],
+) -> Result<Option<Value>, NoMemory>
+    ensures { IfOk result (λ sent. option_map view sent
+        ≡ (if has_body verb then option_map (body_in dialect endpoint verb path.now) (object_in body.now) else None)) }
 {
-    if has_body(verb) {
-        return object_in(alloc, body);
+    if !has_body(verb) {
+        return Ok(None);
     }
-    Ok(None)
+    match object_in(alloc, body)? {
+        Some(object) => Ok(Some(body_in(alloc, dialect, endpoint, verb, path, object)?)),
+        None => Ok(None),
+    }
 }
 
-fn what_of(
+fn what_at(
     alloc: Global,
     endpoint: Endpoint,
     verb: Verb,
@@ -38,7 +56,7 @@ fn what_of(
     boot: u64,
     sent: &Option<Value>,
 ) -> Result<What, Or<Refusal>>
-    ensures { Gives result (what_of endpoint verb path.now query.now boot (option_map view sent.now)) }
+    ensures { Gives result (what_at endpoint verb path.now query.now boot (option_map view sent.now)) }
 {
     if has_body(verb) {
         return what_with_body(alloc, endpoint, verb, path, sent);
@@ -46,22 +64,28 @@ fn what_of(
     what_without_body(alloc, endpoint, verb, path, query, boot)
 }
 
-/// The command that a method, the two parts of a target and a body ask for at an endpoint.
-#[tactic(auto, unfolding(crate::specs::Commands::command_at))]
+/// The command at the line of a path.
+#[tactic(auto, unfolding(crate::specs::Commands::command_at, crate::specs::Commands::plain_command))]
 fn command_at(
     alloc: Global,
-    endpoint: Endpoint,
-    verb: Verb,
+    line: Line,
     path: &str,
     query_text: &str,
-    sent: &Option<Value>,
-    boot: u64,
+    request: &Request,
+    terms: Terms,
 ) -> Result<Command, Or<Refusal>>
-    ensures { Gives result (command_at endpoint verb path.now query_text.now
-        (option_map view sent.now) boot) }
+    requires path { path.now ≡ path_of request.now.target }
+    requires query { query_text.now ≡ query_of request.now.target }
+    ensures { Gives result (command_at line request.now terms) }
 {
-    let query = query_from_text(alloc, query_text)?;
-    let what = what_of(alloc, endpoint, verb, path, &query, boot, sent)?;
+    let Some(verb) = verb_offered(line, request.method.view()) else {
+        return Err(plain_refusal(alloc, Rule::A2));
+    };
+    let endpoint = line.endpoint;
+    let body = request.body.view();
+    let sent = sent_body(alloc, terms.dialect, endpoint, verb, path, body)?;
+    let query = query_in(alloc, terms.dialect, endpoint, verb, query_text)?;
+    let what = what_at(alloc, endpoint, verb, path, &query, terms.boot, &sent)?;
     match project_of(alloc, query) {
         Ok(project) => Ok(Command { project, what }),
         Err(NoMemory) => {
@@ -71,28 +95,34 @@ fn command_at(
     }
 }
 
-/// The command that a request in plain form asks for, by the table of paths.
-#[tactic(auto, unfolding(crate::specs::Commands::plain_command))]
-fn plain_command(
-    alloc: Global,
-    table: &PathTable,
-    request: &Request,
-    boot: u64,
-) -> Result<Command, Or<Refusal>>
-    ensures { Gives result (plain_command request.now boot) }
+/// The reply by a rule that tells nothing.
+fn refused_by(alloc: Global, rule: Rule) -> Reply
+    ensures { (result ≡ reply.NoMemory) ⊎ (result ≡ reply.Refused (plain_refusal rule)) }
 {
-    let (path, query_text) = split_target(request.target.view());
-    let Some(line) = table.line_of(path) else {
-        return Err(plain_refusal(alloc, Rule::A1));
-    };
-    let Some(verb) = verb_offered(line, request.method.view()) else {
-        return Err(plain_refusal(alloc, Rule::A2));
-    };
-    let sent = sent_body(alloc, verb, request.body.view())?;
-    command_at(alloc, line.endpoint, verb, path, query_text, &sent, boot)
+    match plain_refusal(alloc, rule) {
+        Or::Why(refusal) => Reply::Refused(refusal),
+        Or::NoMemory => Reply::NoMemory,
+    }
 }
 
-/// What a request asks for: a command, or a reply that needs none.
+/// What is shown at a path that is not listed: the client's dialect shows lists that are always empty here.
+fn unlisted(alloc: Global, table: &PathTable, dialect: Dialect, path: &str, method: &str) -> Reply
+    ensures { (result ≡ reply.NoMemory) ⊎ (result ≡ unlisted dialect path.now method.now) }
+{
+    if dialect == Dialect::Plain {
+        return refused_by(alloc, Rule::A1);
+    }
+    let Some(line) = table.empty_line_of(path) else {
+        return refused_by(alloc, Rule::A1);
+    };
+    match verb_offered(line, method) {
+        Some(_) => Reply::Links(Seq::new(alloc)),
+        None => refused_by(alloc, Rule::A2),
+    }
+}
+
+/// What a request asks for, by the table of paths: a command, or a reply that needs none.
+#[tactic(auto, unfolding(crate::specs::Commands::command_of))]
 pub(crate) fn command_of(
     alloc: Global,
     table: &PathTable,
@@ -101,7 +131,12 @@ pub(crate) fn command_of(
 ) -> Result<Command, Reply>
     ensures { Reads result (command_of request.now terms) }
 {
-    match plain_command(alloc, table, request, terms.boot) {
+    let (path, query_text) = split_target(request.target.view());
+    let Some(line) = table.line_of(path) else {
+        let method = request.method.view();
+        return Err(unlisted(alloc, table, terms.dialect, path, method));
+    };
+    match command_at(alloc, line, path, query_text, request, terms) {
         Ok(command) => Ok(command),
         Err(Or::Why(refusal)) => Err(Reply::Refused(refusal)),
         Err(Or::NoMemory) => Err(Reply::NoMemory),

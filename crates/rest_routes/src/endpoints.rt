@@ -4,7 +4,8 @@ ghost use Rattle.rest_routes.specs.Endpoints.{verb_of, has_body, is_offered, ver
 use size_values::ObjectKind;
 
 /// What stands at a path of the REST API: the root, the server at `/1.0`, the list of a kind of objects, one object,
-/// the usage of a project, the state of an instance, the wait for an operation, and the events.
+/// the usage of a project, the state of an instance, the wait for an operation, the events, and a list that is always
+/// empty here.
 #[derive(Clone, Copy)]
 pub enum Endpoint {
     Root,
@@ -15,6 +16,7 @@ pub enum Endpoint {
     State,
     Wait,
     Events,
+    Empty,
 }
 
 /// The methods that some path offers. HEAD is read as GET.
@@ -187,6 +189,19 @@ pub(crate) const ROUTES: &[(&str, Endpoint, Methods)] = &[
     ),
     ("/1.0/operations/{id}/wait", Endpoint::Wait, GET),
     ("/1.0/events", Endpoint::Events, GET),
+];
+
+/// The paths of lists of what Incus has and this server has not. The client's dialect shows them empty, since the command
+/// `incus` asks for them.
+pub(crate) const EMPTY_LISTS: &[(&str, Endpoint, Methods)] = &[
+    ("/1.0/certificates", Endpoint::Empty, GET),
+    ("/1.0/images", Endpoint::Empty, GET),
+    ("/1.0/images/aliases", Endpoint::Empty, GET),
+    ("/1.0/network-acls", Endpoint::Empty, GET),
+    ("/1.0/network-zones", Endpoint::Empty, GET),
+    ("/1.0/networks/{name}/forwards", Endpoint::Empty, GET),
+    ("/1.0/storage-pools/{pool}/buckets", Endpoint::Empty, GET),
+    ("/1.0/warnings", Endpoint::Empty, GET),
 ];
 
 /// The method of this name, if some path offers it. HEAD asks for what GET does (RFC 9110, section 9.3.2).

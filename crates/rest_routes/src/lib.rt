@@ -6,6 +6,7 @@ mod commands;
 mod endpoints;
 mod known;
 mod laws;
+mod leniencies;
 mod path_laws;
 mod paths;
 mod query;
@@ -19,7 +20,7 @@ mod without_body;
 
 pub use endpoints::{Endpoint, Line, Methods, Verb, has_body, verb_offered};
 pub use known::asks_for_server;
-pub use laws::what_is_routed_is_formed;
+pub use laws::{dialects_ask_in_plain, leniencies_by_example, what_is_routed_is_formed};
 pub use path_laws::{
     events_stand_at_one_path, names_fill_the_braces, paths_do_not_conflict,
     the_server_stands_at_its_path,

@@ -1,13 +1,14 @@
 //! What can be said of the table of paths. A law is the contract of a function that does nothing.
-ghost use Rattle.std.specs.Prelude.{◌≡◌, true, [], codes, Some, Ok};
+ghost use Rattle.std.specs.Prelude.{◌≡◌, ◌++◌, true, [], codes, Some, Ok};
 ghost use Rattle.rest_routes.specs.Filled.{NamesFill};
-ghost use Rattle.rest_routes.specs.Endpoints.{routes, are_taken, line_of, server_line, EventsStandAtOnePath};
+ghost use Rattle.rest_routes.specs.Endpoints.{empty_lists, routes, are_taken, line_of, server_line, EventsStandAtOnePath};
 ghost use Rattle.rest_routes.specs.Queries.{no_query, query_from_text};
 
 /// No path of the table is malformed, and none conflicts with one before it, so that a table of paths fails to be made
-/// for memory alone.
+/// for memory alone. Nor is one of the lists that are always empty, and none of them conflicts with another path.
 pub fn paths_do_not_conflict()
-    ensures { are_taken routes [] ≡ true }
+    ensures listed { are_taken routes [] ≡ true }
+    ensures empty { are_taken (empty_lists ++ routes) [] ≡ true }
 {}
 
 /// The names that requests read off a path are what stands in it in place of the braces of its line in the table, where

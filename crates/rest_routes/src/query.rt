@@ -1,10 +1,12 @@
-ghost use Rattle.std.specs.Prelude.{◌≡◌, ◌≤◌, IfOk, IfSome};
+ghost use Rattle.std.specs.Prelude.{◌≡◌, ◌≤◌, ◌&&◌, [], IfOk, IfSome, codes};
 ghost use Rattle.std.specs.Str.{bytes_eq};
+ghost use Rattle.form_urlencoded.specs.Form.{raw_pairs};
 ghost use Rattle.records.specs.Forms.{longest_wait};
 ghost use Rattle.rest_routes.specs.Answers.{Gives};
 ghost use Rattle.rest_routes.specs.Queries.{recursion_of, has_leading_zero, timeout_seconds, timeout_of, is_type};
 ghost use Rattle.rest_routes.specs.Queries.{are_types, lists_word, types_of};
-ghost use Rattle.rest_routes.specs.Queries.{no_query, flags_after, project_after, query_after, query_from_text};
+ghost use Rattle.rest_routes.specs.Queries.{no_query, flags_after, project_after, query_after, pairs_passing};
+ghost use Rattle.rest_routes.specs.Queries.{query_of, query_from_text};
 ghost use Rattle.rest_routes.specs.Queries.{project_of, wants_objects, wait_timeout, wanted_types};
 
 use crate::refusals::refusal_on_key;
@@ -176,11 +178,21 @@ fn query_after(alloc: Global, query: Query, key: &str, value: &str) -> Result<Qu
     Ok(Query { project, flags })
 }
 
+/// Whether a pair of a query is a filter that filters nothing.
+fn is_empty_filter(key: &str, value: &str) -> bool
+    ensures { result ≡ (bytes_eq key.now (codes "filter") && bytes_eq value.now []) }
+{
+    key == "filter" && value.is_empty()
+}
+
 /// What a query says, or the refusal of its first bad pair. Keys and values are those of a form (URL Standard,
-/// section 5), and bytes that are no UTF-8 are replaced.
-#[tactic(auto, unfolding(crate::specs::Queries::query_from_text))]
-pub fn query_from_text(alloc: Global, text: &str) -> Result<Query, Or<Refusal>>
-    ensures { Gives result (query_from_text text.now) }
+/// section 5), and bytes that are no UTF-8 are replaced. Empty filters may be passed over.
+pub(crate) fn query_read(
+    alloc: Global,
+    text: &str,
+    passes_empty_filters: bool,
+) -> Result<Query, Or<Refusal>>
+    ensures { Gives result (query_of (pairs_passing passes_empty_filters (raw_pairs text.now))) }
 {
     let mut query = Query {
         project: None,
@@ -192,9 +204,19 @@ pub fn query_from_text(alloc: Global, text: &str) -> Result<Query, Or<Refusal>>
     };
     for pair in parse(alloc, text.as_bytes()) {
         let (key, value) = pair?;
-        query = query_after(alloc, query, &key, &value)?;
+        if !(passes_empty_filters && is_empty_filter(&key, &value)) {
+            query = query_after(alloc, query, &key, &value)?;
+        }
     }
     Ok(query)
+}
+
+/// What a query says, or the refusal of its first bad pair.
+#[tactic(auto, unfolding(crate::specs::Queries::query_from_text), using(crate::proofs::Passing::none_passed))]
+pub fn query_from_text(alloc: Global, text: &str) -> Result<Query, Or<Refusal>>
+    ensures { Gives result (query_from_text text.now) }
+{
+    query_read(alloc, text, false)
 }
 
 /// The project that is asked in.

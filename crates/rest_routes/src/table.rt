@@ -2,17 +2,20 @@
 ghost use Rattle.std.specs.Prelude.{◌≡◌, true, IfOk, map, []};
 ghost use Rattle.matchit.specs.declared.error.InsertError.TheVariants.{OutOfMemory};
 ghost use Rattle.rest_routes.specs.Endpoints.{line_with, are_taken, rows_after, rows, line_of};
+ghost use Rattle.rest_routes.specs.Endpoints.{empty_rows, empty_line_of};
 
-use crate::endpoints::{Endpoint, Line, Methods, ROUTES};
+use crate::endpoints::{EMPTY_LISTS, Endpoint, Line, Methods, ROUTES};
 use matchit::InsertError;
 use size_values::NoMemory;
 use std::alloc::Global;
 use std::marker::Model;
 
-/// Knows the paths of the REST API. Contracts see the rows of the router that finds them.
+/// Knows the paths of the REST API, and those of lists that are always empty here. Contracts see the rows of the router
+/// that finds the first.
 #[derive(Drop)]
 pub struct PathTable {
     router: matchit::Router<Line>,
+    empty: matchit::Router<Line>,
 }
 
 impl Model for PathTable {
@@ -21,11 +24,11 @@ impl Model for PathTable {
     ghost Value = { PathRows };
 
     ghost use Rattle.std.specs.Prelude.{◌≡◌};
-    ghost use Rattle.rest_routes.specs.Endpoints.{rows};
+    ghost use Rattle.rest_routes.specs.Endpoints.{empty_rows, rows};
 
     ghost view = { λ t. t.router };
 
-    ghost invariant = { λ t. t.router ≡ rows };
+    ghost invariant = { λ t. (t.router ≡ rows) × (t.empty ≡ empty_rows) };
 }
 
 /// The only failure of an insertion into a table whose paths can all be taken.
@@ -70,13 +73,21 @@ fn full_router(alloc: Global) -> Result<matchit::Router<Line>, NoMemory>
     router_of(alloc, ROUTES)
 }
 
+#[tactic(auto, unfolding(crate::specs::Endpoints::empty_rows, crate::specs::Endpoints::empty_lists))]
+fn empty_router(alloc: Global) -> Result<matchit::Router<Line>, NoMemory>
+    ensures { IfOk result (λ r. r ≡ empty_rows) }
+{
+    router_of(alloc, EMPTY_LISTS)
+}
+
 impl PathTable {
     /// The table of the paths of the REST API.
     pub fn new(alloc: Global) -> Result<PathTable, NoMemory>
         ensures { IfOk result (λ t. t ≡ rows) }
     {
         let router = full_router(alloc)?;
-        Ok(PathTable { router })
+        let empty = empty_router(alloc)?;
+        Ok(PathTable { router, empty })
     }
 
     /// The line of the table that a path belongs to, if it is listed.
@@ -85,6 +96,17 @@ impl PathTable {
         ensures { result ≡ line_of path.now }
     {
         match self.router.at(path) {
+            Ok(found) => Some(*found.value),
+            Err(_) => None,
+        }
+    }
+
+    /// The line of a list that is always empty here, if the path is that of one.
+    #[tactic(auto, unfolding(crate::specs::Endpoints::empty_line_of))]
+    pub(crate) fn empty_line_of(&self, path: &str) -> Option<Line>
+        ensures { result ≡ empty_line_of path.now }
+    {
+        match self.empty.at(path) {
             Ok(found) => Some(*found.value),
             Err(_) => None,
         }

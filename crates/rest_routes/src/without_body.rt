@@ -75,5 +75,6 @@ pub(crate) fn what_without_body(
             timeout: wait_timeout(query),
         }),
         Endpoint::Events => Err(plain_refusal(alloc, Rule::A6)),
+        Endpoint::Empty => Err(plain_refusal(alloc, Rule::A1)),
     }
 }

@@ -1,11 +1,7 @@
 use Rattle.std.proofs.Common.{◌≡◌, true, refl, sym, ◌∙◌}
-use Rattle.std.specs.Fmt.{digits}
-use Rattle.json.specs.Print.{escape_byte}
-use Rattle.http_front.specs.Replies.{reply_text}
-use Rattle.rest_json.specs.Views.{server_data}
 use Rattle.records.specs.declared.replies.View.{View}
 use Rattle.records.specs.declared.replies.View.TheVariants as view
-use Rattle.rest_replies.specs.Replies.{printed_of, success_data, is_server}
+use Rattle.rest_replies.specs.Replies.{is_server}
 use Rattle.rest_replies.proofs.known.known_reply.Goals as goal
 
 -- it is the server
@@ -14,14 +10,12 @@ shown-server view.Server e = refl
 shown-server other e = cc
 
 pub returns-in-Empty : goal.returns-in-Empty
-unfolding printed_of reply_text success_data digits escape_byte
 returns-in-Empty c = record {
-  text = rw (c.in-Empty.is, c.if-last.false) refl;
+  text = rw (c.in-Empty.is, c.if-last.false) c.empty_text.ensures;
   when = rw (c.in-Empty.is, c.if-last.false) refl;
 }
 
 pub returns-then-is_server : goal.returns-then-is_server
-unfolding printed_of reply_text success_data server_data digits escape_byte
 returns-then-is_server c =
     let server = shown-server _ (sym c.is_server.ensures ∙ c.if-is_server.true) in
     record {
