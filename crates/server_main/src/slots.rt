@@ -1,7 +1,7 @@
-ghost use Rattle.std.specs.Prelude.{◌≡◌, ◌+◌, ◌≤◌, IfOk, OnOk, false, vec_len, vec_capacity};
+ghost use Rattle.std.specs.Prelude.{◌≡◌, ◌+◌, ◌≤◌, IfOk, OnOk, true, false, vec_len, vec_capacity};
 ghost use Rattle.serving.specs.Slots.{KeepsSlot};
 ghost use Rattle.server_main.specs.Doors.{log_at, terms_at};
-ghost use Rattle.server_main.specs.Jobs.{ServesBy};
+ghost use Rattle.server_main.specs.Jobs.{ServesBy, is_link};
 
 use crate::busy::BUSY;
 use crate::door_terms::{ServerLogs, log_at, terms_at};
@@ -104,7 +104,8 @@ impl<
         gate: LockedGate<R, L, T>,
         link: Link<S, K>,
     ) -> ServerJob<S, K, R, H, C, L, T, O>
-        ensures { ServesBy link.source link.sink (terms_at self.now.boot link.door) (log_at self.now.logs link.door) result }
+        ensures link { is_link result ≡ true }
+        ensures serves { ServesBy link.source link.sink (terms_at self.now.boot link.door) (log_at self.now.logs link.door) result }
     {
         ServerJob::Link {
             rt: self.rt,
@@ -152,11 +153,23 @@ impl<
         &mut self,
         slot: LockedGate<R, L, T>,
         link: Link<S, K>,
-    ) -> ServerJob<S, K, R, H, C, L, T, O> {
+    ) -> ServerJob<S, K, R, H, C, L, T, O>
+        ensures link { is_link result ≡ true }
+        ensures slots { vec_len self.new.gates ≡ vec_len self.old.gates }
+        ensures room { vec_capacity self.old.gates ≤ vec_capacity self.new.gates }
+        ensures closed { self.new.closed ≡ self.old.closed }
+
+        // It is on the terms of the door of the link.
+        ensures serves { ServesBy link.source link.sink (terms_at self.old.boot link.door) (log_at self.old.logs link.door) result }
+    {
         self.job_of(slot, link)
     }
 
-    fn turn_away(&mut self, link: Link<S, K>) {
+    fn turn_away(&mut self, link: Link<S, K>)
+        ensures slots { vec_len self.new.gates ≡ vec_len self.old.gates }
+        ensures room { vec_capacity self.old.gates ≤ vec_capacity self.new.gates }
+        ensures closed { self.new.closed ≡ self.old.closed }
+    {
         let Link {
             source,
             mut sink,

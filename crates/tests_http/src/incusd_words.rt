@@ -165,7 +165,10 @@ const NOT_READ: &[&str] = &[
 const SOCKETS: &[(&str, Option<&str>)] = &[
     ("|--port=8443", None),
     ("|--socket=s", Some("s")),
-    ("|--socket|/run/incus/unix.socket|--port=1", Some("/run/incus/unix.socket")),
+    (
+        "|--socket|/run/incus/unix.socket|--port=1",
+        Some("/run/incus/unix.socket"),
+    ),
     ("|--port=1|--socket=-a b=c", Some("-a b=c")),
     ("|--socket=s|--workers=9", None),
 ];

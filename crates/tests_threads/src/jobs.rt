@@ -1,5 +1,5 @@
 //! Jobs over links and workers that meet in a few words.
-ghost use Rattle.std.specs.Prelude.{◌≡◌, ◌≤◌, IfOk, vec_len, vec_capacity};
+ghost use Rattle.std.specs.Prelude.{◌≡◌, ◌≤◌, IfOk, true, vec_len, vec_capacity};
 
 use http_front::{Sink, Source};
 use serving::{Job, Jobs, Link};
@@ -173,7 +173,12 @@ impl<S: Source + Drop, K: Sink + Drop, R: Wait + Copy + Drop> Jobs<TestJob<S, K,
         board
     }
 
-    fn link_job(&mut self, slot: Arc<Board, Global>, link: Link<S, K>) -> TestJob<S, K, R> {
+    fn link_job(&mut self, slot: Arc<Board, Global>, link: Link<S, K>) -> TestJob<S, K, R>
+        ensures link { result.is_link ≡ true }
+        ensures slots { vec_len self.new.boards ≡ vec_len self.old.boards }
+        ensures room { vec_capacity self.old.boards ≤ vec_capacity self.new.boards }
+        ensures closed { self.new.closed ≡ self.old.closed }
+    {
         TestJob {
             rt: self.rt,
             board: slot,
@@ -183,7 +188,11 @@ impl<S: Source + Drop, K: Sink + Drop, R: Wait + Copy + Drop> Jobs<TestJob<S, K,
         }
     }
 
-    fn turn_away(&mut self, link: Link<S, K>) {
+    fn turn_away(&mut self, link: Link<S, K>)
+        ensures slots { vec_len self.new.boards ≡ vec_len self.old.boards }
+        ensures room { vec_capacity self.old.boards ≤ vec_capacity self.new.boards }
+        ensures closed { self.new.closed ≡ self.old.closed }
+    {
         if let Some(board) = self.boards.last() {
             board.away.fetch_add(1, Ordering::SeqCst);
         }
