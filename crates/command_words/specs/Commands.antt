@@ -18,10 +18,6 @@ use Rattle.clap.specs.declared.parser.matches.ArgMatches.{ArgMatches}
 abbrev pub option_of : List ℕ → Rule
 option_of name = record (new_rule name) { long = Some name; action = Some Set }
 
--- such an option that the words have to give
-abbrev pub required_option_of : List ℕ → Rule
-required_option_of name = record (option_of name) { required = true }
-
 -- an option without a value, `--name`, which is given at most once
 abbrev pub flag_of : List ℕ → Rule
 flag_of name = record (new_rule name) { long = Some name; action = Some SetTrue }

@@ -1,5 +1,6 @@
 -- Lists of words, each with what it says, or with nothing where it is not read.
 use Rattle.std.specs.Prelude.{◌≡◌, [], ◌∷◌, Some, None, codes}
+use Rattle.rest_json.specs.declared.terms.Dialect.TheVariants.{Client, Plain}
 use Rattle.command_words.specs.RunWords.{no_setup, setup_of, words_of}
 use Rattle.command_words.specs.declared.rows_path.RowsPath.TheVariants.{Database, Journal}
 use Rattle.command_words.specs.declared.run_words.CommandWords.TheVariants.{Check, Drill, Make, Run}
@@ -8,7 +9,7 @@ use Rattle.command_words.specs.declared.run_words.RunWords.{RunWords}
 
 -- a run of which nothing is said
 abbrev pub plain : RunWords
-plain = record { now = None; pace = All; boot = None }
+plain = record { now = None; pace = All; boot = None; dialect = Plain }
 
 pub record AreWorked : Type 0 where
   -- a command alone, in both forms of an option, and with options in any order
@@ -17,6 +18,12 @@ pub record AreWorked : Type 0 where
   pub joined : words_of (codes "run" ∷ codes "--steps=3" ∷ []) ≡ Some (Run (record plain { pace = Steps 3 }))
   pub mixed : words_of (codes "run" ∷ codes "--boot=9" ∷ codes "--now" ∷ codes "0" ∷ [])
       ≡ Some (Run (record plain { now = Some 0; boot = Some 9 }))
+  -- both dialects, and a word that is none
+  pub as_plain : words_of (codes "run" ∷ codes "--dialect=plain" ∷ []) ≡ Some (Run plain)
+  pub as_client : words_of (codes "run" ∷ codes "--dialect" ∷ codes "client" ∷ [])
+      ≡ Some (Run (record plain { dialect = Client }))
+  pub no_dialect : words_of (codes "run" ∷ codes "--dialect=Client" ∷ []) ≡ None
+  pub drilled_dialect : words_of (codes "drill" ∷ codes "7" ∷ codes "40" ∷ codes "--dialect=client" ∷ []) ≡ None
   -- the other commands
   pub make : words_of (codes "make" ∷ codes "7" ∷ codes "40" ∷ []) ≡ Some (Make 7 40)
   pub drill : words_of (codes "drill" ∷ codes "7" ∷ codes "--db" ∷ codes "f" ∷ codes "40" ∷ []) ≡ Some (Drill 7 40)

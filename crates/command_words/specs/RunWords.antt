@@ -8,10 +8,12 @@ use Rattle.std.specs.Str.{bytes_eq}
 use Rattle.clap.specs.Simple.{new_shape}
 use Rattle.clap.specs.Words.{App, Row, Rule, Shape, first_of, subcommand_of}
 use Rattle.size_values.specs.Moments.{moment_limit}
+use Rattle.rest_json.specs.declared.terms.Dialect.{Dialect}
+use Rattle.rest_json.specs.declared.terms.Dialect.TheVariants.{Plain}
 use Rattle.command_words.specs.Commands.{are_taken, command_of, option_of, positional_of}
 use Rattle.command_words.specs.RowsPaths.{Taking, are_values, is_file, is_given, is_one_file, is_path, rows_path}
 use Rattle.command_words.specs.RowsPaths.{store_options}
-use Rattle.command_words.specs.Values.{are_call_numbers, boot_said, call_numbers_said, count_said, moment_said}
+use Rattle.command_words.specs.Values.{are_call_numbers, boot_said, call_numbers_said, count_said, dialect_said, moment_said}
 use Rattle.command_words.specs.Values.{pace_said, seed_said}
 use Rattle.command_words.specs.declared.rows_path.RowsPath.TheVariants.{Memory}
 use Rattle.command_words.specs.declared.run_setup.Setup.{Setup}
@@ -33,6 +35,7 @@ run_options =
     ∷ (codes "fail-keeper", are_call_numbers)
     ∷ (codes "now", λ value. is_some (moment_said value))
     ∷ (codes "boot", λ value. is_some (boot_said value))
+    ∷ (codes "dialect", λ value. is_some (dialect_said value))
     ∷ []
 
 -- the words after `make` and after `drill`
@@ -78,13 +81,14 @@ parsed_command words = if are_taken run_program words then subcommand_of run_pro
 
 -- ---- what they say
 
--- what the options of `run` say of the run: the clock that is handed in is read, all steps are made, and the word that
--- is handed in is that of the start, where they say nothing else
+-- what the options of `run` say of the run: the clock that is handed in is read, all steps are made, the word that is
+-- handed in is that of the start, and the dialect is the plain one, where they say nothing else
 abbrev pub run_words_in : List Row → RunWords
 run_words_in given = record {
   now = option_and_then moment_said (first_of (codes "now") given);
   pace = unwrap_or (option_and_then pace_said (first_of (codes "steps") given)) All;
   boot = option_and_then boot_said (first_of (codes "boot") given);
+  dialect = unwrap_or (option_and_then dialect_said (first_of (codes "dialect") given)) Plain;
 }
 
 -- `run`, where its options have values that they take, and no call of the keeper is to fail over a file
@@ -147,6 +151,10 @@ now_of words = option_and_then (λ run. run.now) (run_of words)
 -- the word of the start, where the words say one
 abbrev pub boot_of : List (List ℕ) → Option ℕ
 boot_of words = option_and_then (λ run. run.boot) (run_of words)
+
+-- the dialect of a run: the one that the words say, or else the plain one
+abbrev pub dialect_of : List (List ℕ) → Dialect
+dialect_of words = option_map_or (λ run. run.dialect) (run_of words) Plain
 
 -- the pace of the worker: the one that the words say, or else all of its steps
 abbrev pub pace_of : List (List ℕ) → Pace

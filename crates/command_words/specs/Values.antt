@@ -4,6 +4,8 @@ use Rattle.std.specs.Prelude.{option_map, is_some, nat_le, codes}
 use Rattle.std.specs.List.{filter_map, list_all, slice_split}
 use Rattle.std.specs.Str.{byte, bytes_eq}
 use Rattle.size_values.specs.Moments.{moment_limit}
+use Rattle.rest_json.specs.declared.terms.Dialect.{Dialect}
+use Rattle.rest_json.specs.declared.terms.Dialect.TheVariants.{Client, Plain}
 use Rattle.command_words.specs.Numbers.{number_said}
 use Rattle.command_words.specs.declared.run_words.Pace.{Pace}
 use Rattle.command_words.specs.declared.run_words.Pace.TheVariants.{All, Steps}
@@ -36,6 +38,15 @@ call_number_said text = number_said 1 (2 ^ 64 - 1) text
 abbrev pub pace_said : List ℕ → Option Pace
 pace_said value =
     if bytes_eq value (codes "all") then Some All else option_map Steps (number_said 0 1000000 value)
+
+-- ---- dialects
+
+-- the dialect that a value of `--dialect` says
+abbrev pub dialect_said : List ℕ → Option Dialect
+dialect_said value =
+    if bytes_eq value (codes "plain") then Some Plain
+    else if bytes_eq value (codes "client") then Some Client
+    else None
 
 -- ---- lists of calls
 

@@ -2,7 +2,7 @@
 ghost use Rattle.std.specs.Prelude.{◌≡◌, false, IfOk, IsErr, MatchResult};
 ghost use Rattle.clap.specs.Words.{app_of, shape_of, with_subcommand};
 ghost use Rattle.clap.specs.declared.builder.command.Command.TheViews.{out-Command as fields_of};
-ghost use Rattle.command_words.specs.Commands.{AddsRule, flag_of, option_of, positional_of, required_option_of};
+ghost use Rattle.command_words.specs.Commands.{AddsRule, flag_of, option_of, positional_of};
 
 use clap::{Arg, ArgAction, Command};
 use size_values::NoMemory;
@@ -17,21 +17,6 @@ pub fn with_option<'a>(
     ensures { IfOk result (AddsRule (option_of name.entry.now) command.entry) }
 {
     let option = Arg::new(alloc, name).long(name).action(ArgAction::Set);
-    Ok(command.arg(option)?)
-}
-
-/// Adds an option with one value, which the words have to give.
-pub fn with_required_option<'a>(
-    alloc: Global,
-    command: Command<'a>,
-    name: &'a str,
-) -> Result<Command<'a>, NoMemory>
-    ensures { IfOk result (AddsRule (required_option_of name.entry.now) command.entry) }
-{
-    let option = Arg::new(alloc, name)
-        .long(name)
-        .action(ArgAction::Set)
-        .required(true);
     Ok(command.arg(option)?)
 }
 

@@ -17,10 +17,11 @@ mod serve_setup;
 mod serve_values;
 mod serve_words;
 
-pub use commands::{with_command, with_flag, with_option, with_positional, with_required_option};
+pub use commands::{with_command, with_flag, with_option, with_positional};
 pub use help::{run_help, serve_help};
 pub use numbers::number_said;
 pub use reading::{is_flagged, parse_words, value_of};
+pub use rest_json::Dialect;
 pub use rows_path::RowsPath;
 pub use run_laws::run_examples;
 pub use run_setup::{Setup, setup_of};

@@ -22,7 +22,8 @@ fn run_command<'a>(alloc: Global) -> Result<Command<'a>, NoMemory>
     let command = with_option(alloc, command, "fail-host")?;
     let command = with_option(alloc, command, "fail-keeper")?;
     let command = with_option(alloc, command, "now")?;
-    with_option(alloc, command, "boot")
+    let command = with_option(alloc, command, "boot")?;
+    with_option(alloc, command, "dialect")
 }
 
 fn make_command<'a>(alloc: Global) -> Result<Command<'a>, NoMemory>

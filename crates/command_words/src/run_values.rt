@@ -5,11 +5,12 @@ ghost use Rattle.std.specs.List.{filter_map, list_all};
 ghost use Rattle.std.specs.Option.{unwrap_or};
 ghost use Rattle.size_values.specs.Moments.{moment_limit};
 ghost use Rattle.command_words.specs.Values.{are_call_numbers, boot_said, call_number_said};
-ghost use Rattle.command_words.specs.Values.{call_numbers_said, count_said};
+ghost use Rattle.command_words.specs.Values.{call_numbers_said, count_said, dialect_said};
 ghost use Rattle.command_words.specs.Values.{moment_said, pace_said, parts_of, seed_said};
 
 use crate::numbers::number_said;
 use crate::run_words::Pace;
+use rest_json::Dialect;
 use size_values::{MOMENT_LIMIT, NoMemory, Seq};
 use std::alloc::Global;
 
@@ -47,6 +48,19 @@ pub(crate) fn pace_said(value: &str) -> Option<Pace>
     match number_said(0, MOST_STEPS, value) {
         Some(steps) => Some(Pace::Steps(steps as u32)),
         None => None,
+    }
+}
+
+/// The dialect that a value of `--dialect` says.
+pub(crate) fn dialect_said(value: &str) -> Option<Dialect>
+    ensures { result ≡ dialect_said value.now }
+{
+    if value == "plain" {
+        Some(Dialect::Plain)
+    } else if value == "client" {
+        Some(Dialect::Client)
+    } else {
+        None
     }
 }
 

@@ -4,7 +4,7 @@ ghost use Rattle.std.specs.Option.{option_and_then, option_map_or};
 ghost use Rattle.clap.specs.Words.{first_of, found_of, rows_of, subcommand_rows_of};
 ghost use Rattle.size_values.specs.Moments.{moment_limit};
 ghost use Rattle.command_words.specs.RowsPaths.{are_values};
-ghost use Rattle.command_words.specs.Values.{are_call_numbers, boot_said, moment_said, pace_said};
+ghost use Rattle.command_words.specs.Values.{are_call_numbers, boot_said, dialect_said, moment_said, pace_said};
 ghost use Rattle.command_words.specs.RunWords.{AreInRange, check_command_words, drill_command_words};
 ghost use Rattle.command_words.specs.RunWords.{make_command_words, run_command_words, run_options, run_words_in};
 ghost use Rattle.command_words.specs.RunWords.{stream_numbers, words_of, words_of_command};
@@ -13,9 +13,10 @@ use crate::reading::value_of;
 use crate::rows_path::{are_store_values, is_file, is_given, is_one_file, takes_path};
 use crate::run_program::parsed_command;
 use crate::run_values::{
-    are_call_numbers, boot_said, count_said, moment_said, pace_said, seed_said,
+    are_call_numbers, boot_said, count_said, dialect_said, moment_said, pace_said, seed_said,
 };
 use clap::ArgMatches;
+use rest_json::Dialect;
 use size_values::NoMemory;
 use std::alloc::Global;
 
@@ -36,6 +37,7 @@ pub struct RunWords {
     pub pace: Pace,
     /// The word of this start. Without one the word that is handed in is used.
     pub boot: Option<u64>,
+    pub dialect: Dialect,
 }
 
 /// A command of the program, with what its words say.
@@ -87,6 +89,15 @@ fn takes_boot(value: Option<&str>) -> bool
     }
 }
 
+fn takes_dialect(value: Option<&str>) -> bool
+    ensures { result ≡ option_map_or (λ v. is_some (dialect_said v)) (option_map (λ v. v.now) value.entry) true }
+{
+    match value {
+        Some(value) => dialect_said(value).is_some(),
+        None => true,
+    }
+}
+
 /// Whether the options of `run` have values that they take.
 fn are_run_values(given: &ArgMatches<'_>) -> bool
     ensures { result ≡ are_values run_options (rows_of (found_of given.now)) }
@@ -98,6 +109,7 @@ fn are_run_values(given: &ArgMatches<'_>) -> bool
         && takes_calls(value_of(given, "fail-keeper"))
         && takes_moment(value_of(given, "now"))
         && takes_boot(value_of(given, "boot"))
+        && takes_dialect(value_of(given, "dialect"))
 }
 
 /// The moment that `--now` says.
@@ -131,6 +143,16 @@ fn boot_in(given: &ArgMatches<'_>) -> Option<u64>
     }
 }
 
+/// The dialect that `--dialect` says.
+fn dialect_in(given: &ArgMatches<'_>) -> Option<Dialect>
+    ensures { result ≡ option_and_then dialect_said (first_of (codes "dialect") (rows_of (found_of given.now))) }
+{
+    match value_of(given, "dialect") {
+        Some(value) => dialect_said(value),
+        None => None,
+    }
+}
+
 /// What the options of `run` say of the run.
 fn run_words_in(given: &ArgMatches<'_>) -> RunWords
     ensures says { result ≡ run_words_in (rows_of (found_of given.now)) }
@@ -140,6 +162,7 @@ fn run_words_in(given: &ArgMatches<'_>) -> RunWords
         now: moment_in(given),
         pace: pace_in(given).unwrap_or(Pace::All),
         boot: boot_in(given),
+        dialect: dialect_in(given).unwrap_or(Dialect::Plain),
     }
 }
 
@@ -245,7 +268,7 @@ fn command_words_in(given: &Option<ArgMatches<'_>>) -> Option<CommandWords>
 
 /// What the words say, where they are read: a command with its numbers, and its options after it in any order, each at
 /// most once, as `--name VALUE` or `--name=VALUE`. `run` has `--steps`, `--db`, `--journal`, `--fail-host`,
-/// `--fail-keeper`, `--now` and `--boot`; `make SEED COUNT` has none; `drill SEED COUNT` and `check` have `--db` and
+/// `--fail-keeper`, `--now`, `--boot` and `--dialect`; `make SEED COUNT` has none; `drill SEED COUNT` and `check` have `--db` and
 /// `--journal`. Of `--db`, `--journal` and `--fail-keeper` no two stand together.
 #[tactic(auto, unfolding(crate::specs::RunWords::words_of))]
 pub fn read_words(alloc: Global, words: &[String]) -> Result<Option<CommandWords>, NoMemory>

@@ -4,7 +4,7 @@ ghost use Rattle.clap.specs.Words.{app_of, found_of, rows_of};
 ghost use Rattle.command_words.specs.Commands.{HasShape};
 ghost use Rattle.command_words.specs.ServeWords.{bare_program, parsed_options, serve_program};
 
-use crate::commands::{with_flag, with_option, with_required_option};
+use crate::commands::{with_flag, with_option};
 use crate::reading::parse_words;
 use clap::{ArgMatches, Command};
 use size_values::NoMemory;
@@ -23,7 +23,8 @@ fn program<'a>(alloc: Global) -> Result<Command<'a>, NoMemory>
     ensures { IfOk result (λ program. app_of program ≡ serve_program) }
 {
     let program = bare_program(alloc);
-    let program = with_required_option(alloc, program, "port")?;
+    let program = with_option(alloc, program, "port")?;
+    let program = with_option(alloc, program, "socket")?;
     let program = with_option(alloc, program, "connections")?;
     let program = with_option(alloc, program, "at-once")?;
     let program = with_option(alloc, program, "workers")?;

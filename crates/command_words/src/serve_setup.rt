@@ -1,26 +1,27 @@
 //! What the words say of the outside.
 ghost use Rattle.std.specs.Prelude.{◌≡◌, codes, false, map, option_map, IfOk, string_bytes};
 ghost use Rattle.std.specs.Option.{option_and_then, option_map_or};
-ghost use Rattle.clap.specs.Words.{found_of, rows_of};
+ghost use Rattle.clap.specs.Words.{first_of, found_of, rows_of};
 ghost use Rattle.command_words.specs.Commands.{is_flagged};
 ghost use Rattle.command_words.specs.RowsPaths.{rows_path};
 ghost use Rattle.command_words.specs.ServeWords.{options_from, serve_setup_of, setup_with};
 ghost use Rattle.command_words.specs.declared.rows_path.RowsPath.TheVariants.{Memory};
 
-use crate::reading::is_flagged;
+use crate::reading::{is_flagged, value_of};
 use crate::rows_path::{RowsPath, rows_path};
 use crate::serve_program::parsed_options;
 use crate::serve_words::options_of_matches;
 use clap::ArgMatches;
-use size_values::NoMemory;
+use size_values::{NoMemory, Text};
 use std::alloc::Global;
 
-/// The port that is listened on; where the rows are kept; how many seconds a connection may send nothing; whether the end
+/// The port and the socket file that are listened on; where the rows are kept; how many seconds a connection may send nothing; whether the end
 /// of standard input stops the server; whether standard error tells of each request; and how many tickets through the lock
 /// of the server the run takes.
 #[derive(Drop)]
 pub struct ServeSetup {
-    pub port: u32,
+    pub port: Option<u32>,
+    pub socket: Option<Text>,
     pub rows: RowsPath,
     pub idle: u32,
     pub stops: bool,
@@ -36,6 +37,29 @@ fn rows_of_matches(alloc: Global, given: &Option<ArgMatches<'_>>) -> Result<Rows
     match given {
         Some(given) => rows_path(alloc, given),
         None => Ok(RowsPath::Memory),
+    }
+}
+
+/// The socket file that is listened on.
+fn socket_of_matches(
+    alloc: Global,
+    given: &Option<ArgMatches<'_>>,
+) -> Result<Option<Text>, NoMemory>
+    ensures { IfOk result (λ path. path ≡ option_and_then (first_of (codes "socket"))
+        (option_map (λ m. rows_of (found_of m)) given.now)) }
+{
+    match given {
+        Some(given) => socket_path(alloc, given),
+        None => Ok(None),
+    }
+}
+
+fn socket_path(alloc: Global, given: &ArgMatches<'_>) -> Result<Option<Text>, NoMemory>
+    ensures { IfOk result (λ path. path ≡ first_of (codes "socket") (rows_of (found_of given.now))) }
+{
+    match value_of(given, "socket") {
+        Some(path) => Ok(Some(Text::from_text(alloc, path)?)),
+        None => Ok(None),
     }
 }
 
@@ -65,6 +89,7 @@ fn logs(given: &Option<ArgMatches<'_>>) -> bool
 fn setup_of_matches(alloc: Global, given: &Option<ArgMatches<'_>>) -> Result<ServeSetup, NoMemory>
     ensures { IfOk result (λ setup. setup ≡ setup_with
         (option_and_then options_from (option_map (λ m. rows_of (found_of m)) given.now))
+        (option_and_then (first_of (codes "socket")) (option_map (λ m. rows_of (found_of m)) given.now))
         (option_map_or rows_path (option_map (λ m. rows_of (found_of m)) given.now) Memory)
         (option_map_or (is_flagged (codes "stop-at-end-of-input")) (option_map (λ m. rows_of (found_of m)) given.now)
         false)
@@ -74,8 +99,10 @@ fn setup_of_matches(alloc: Global, given: &Option<ArgMatches<'_>>) -> Result<Ser
         Some(options) => {
             let tickets = options.at_once + options.workers + 1;
             let rows = rows_of_matches(alloc, given)?;
+            let socket = socket_of_matches(alloc, given)?;
             Ok(ServeSetup {
                 port: options.port,
+                socket,
                 rows,
                 idle: options.idle,
                 stops: stops(given),
@@ -84,7 +111,8 @@ fn setup_of_matches(alloc: Global, given: &Option<ArgMatches<'_>>) -> Result<Ser
             })
         }
         None => Ok(ServeSetup {
-            port: 0,
+            port: None,
+            socket: None,
             rows: RowsPath::Memory,
             idle: 0,
             stops: false,
@@ -94,7 +122,7 @@ fn setup_of_matches(alloc: Global, given: &Option<ArgMatches<'_>>) -> Result<Ser
     }
 }
 
-/// What the doors, the keeper and the lock of the server are made of: port 0, rows in memory and no tickets where the
+/// What the doors, the keeper and the lock of the server are made of: no door, rows in memory and no tickets where the
 /// words are not read.
 #[tactic(auto, unfolding(crate::specs::ServeWords::options_of))]
 pub fn serve_setup_of(alloc: Global, words: &[String]) -> Result<ServeSetup, NoMemory>

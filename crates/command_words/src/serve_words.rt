@@ -3,10 +3,12 @@ ghost use Rattle.std.specs.Prelude.{◌≡◌, ◌≤◌, map, option_map, IfOk,
 ghost use Rattle.std.specs.Option.{option_and_then};
 ghost use Rattle.clap.specs.Words.{found_of, rows_of};
 ghost use Rattle.command_words.specs.ServeWords.{at_once_count, connection_count, idle_seconds, option_numbers};
-ghost use Rattle.command_words.specs.ServeWords.{options_from, serve_words_of, worker_count};
+ghost use Rattle.command_words.specs.ServeWords.{is_some_door, options_from, port_number, serve_words_of, worker_count};
+ghost use Rattle.command_words.specs.ServeWords.{path_options};
+ghost use Rattle.command_words.specs.RowsPaths.{are_values};
 
 use crate::reading::value_of;
-use crate::rows_path::{are_store_values, is_one_file};
+use crate::rows_path::{are_store_values, is_given, is_one_file, takes_path};
 use crate::serve_program::parsed_options;
 use crate::serve_values::{at_once_said, connections_said, idle_said, port_said, workers_said};
 use clap::ArgMatches;
@@ -34,7 +36,7 @@ pub struct ServeWords {
 /// The numbers that the options say.
 #[derive(Clone, Copy)]
 pub(crate) struct Options {
-    pub port: u32,
+    pub port: Option<u32>,
     pub connections: Option<u32>,
     pub at_once: u32,
     pub workers: u32,
@@ -70,6 +72,16 @@ fn idle_seconds(given: &ArgMatches<'_>) -> Option<u32>
     }
 }
 
+/// The port that is listened on: None in the inner option where there is none.
+fn port_number(given: &ArgMatches<'_>) -> Option<Option<u32>>
+    ensures { result ≡ port_number (rows_of (found_of given.now)) }
+{
+    match value_of(given, "port") {
+        Some(value) => port_said(value).map(Some),
+        None => Some(None),
+    }
+}
+
 /// How many connections are taken: None in the inner option where all that come are.
 fn connection_count(given: &ArgMatches<'_>) -> Option<Option<u32>>
     ensures { result ≡ connection_count (rows_of (found_of given.now)) }
@@ -85,7 +97,7 @@ fn option_numbers(given: &ArgMatches<'_>) -> Option<Options>
     ensures says { result ≡ option_numbers (rows_of (found_of given.now)) }
     ensures few { IfSome result (λ o. (o.at_once ≤ 4096) × (o.workers ≤ 8)) }
 {
-    let port = value_of(given, "port").and_then(port_said)?;
+    let port = port_number(given)?;
     let connections = connection_count(given)?;
     let at_once = at_once_count(given)?;
     let workers = worker_count(given)?;
@@ -99,11 +111,25 @@ fn option_numbers(given: &ArgMatches<'_>) -> Option<Options>
     })
 }
 
+/// Whether the options name files by paths.
+fn are_paths(given: &ArgMatches<'_>) -> bool
+    ensures { result ≡ are_values path_options (rows_of (found_of given.now)) }
+{
+    takes_path(value_of(given, "socket")) && are_store_values(given)
+}
+
+/// Whether they name a door: a port, a socket file, or both.
+fn is_some_door(given: &ArgMatches<'_>) -> bool
+    ensures { result ≡ is_some_door (rows_of (found_of given.now)) }
+{
+    is_given("port", given) || is_given("socket", given)
+}
+
 fn options_from(given: &ArgMatches<'_>) -> Option<Options>
     ensures says { result ≡ options_from (rows_of (found_of given.now)) }
     ensures few { IfSome result (λ o. (o.at_once ≤ 4096) × (o.workers ≤ 8)) }
 {
-    if are_store_values(given) && is_one_file(given) {
+    if are_paths(given) && is_one_file(given) && is_some_door(given) {
         option_numbers(given)
     } else {
         None
@@ -121,9 +147,9 @@ pub(crate) fn options_of_matches(given: &Option<ArgMatches<'_>>) -> Option<Optio
     }
 }
 
-/// What the words say, where they are read: the options `--port`, `--connections`, `--at-once`, `--workers`, `--idle`,
-/// `--db` and `--journal` in any order, each at most once, as `--name VALUE` or `--name=VALUE`. The first has to be given,
-/// and the last two do not stand together.
+/// What the words say, where they are read: the options `--port`, `--socket`, `--connections`, `--at-once`, `--workers`,
+/// `--idle`, `--db` and `--journal` in any order, each at most once, as `--name VALUE` or `--name=VALUE`. One of the first
+/// two has to be given, and the last two do not stand together.
 #[tactic(auto, unfolding(crate::specs::ServeWords::options_of))]
 pub fn read_serve_words(alloc: Global, words: &[String]) -> Result<Option<ServeWords>, NoMemory>
     ensures says { IfOk result (λ said. said ≡ serve_words_of (map (λ w. string_bytes w) words.now)) }

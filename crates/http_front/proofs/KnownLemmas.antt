@@ -48,8 +48,8 @@ not_some (Some key) is = cc
 
 -- a head that is noted is the whole message that its plain request is
 pub known-noted : (items bytes : List ℕ) (said : Head) (known : Known) → items ≡ bytes → head_len bytes ≡ Some (length bytes) → Says (after_blank bytes) said
-    → said.body ≡ 0 → said.last ≡ false → is_some said.upgrade ≡ false → known.method ≡ said.method → known.target ≡ said.target → IsKnown items known
-known-noted items bytes said known same ends says no_body going plain method target = rw same (inr (record {
+    → said.body ≡ 0 → said.last ≡ false → is_some said.upgrade ≡ false → said.origin ≡ false → known.method ≡ said.method → known.target ≡ said.target → IsKnown items known
+known-noted items bytes said known same ends says no_body going plain own method target = rw same (inr (record {
   len = length bytes;
   head = says.head;
   body = 0;
@@ -65,5 +65,6 @@ known-noted items bytes said known same ends says no_body going plain method tar
   last_is = sym going ∙ says.last_is;
   expects_is = expects-no_body says.head;
   upgrade_is = not_some said.upgrade plain ∙ says.upgrade_is;
+  origin_is = sym own ∙ says.origin_is;
   rest_is = sym (drop_all (length bytes + 0) bytes (omega arith));
 }))

@@ -1,6 +1,7 @@
 -- Bytes that are taken in before a request is read, and what they tell of leave.
 use Rattle.std.proofs.Common.{◌≡◌, ℕ, ◌-◌, Bool, false, true, List, [], ◌++◌, length, take, drop, Option, Some, None, IfSome, is_some, sym, ap, ◌∙◌, subst, ◌⊎◌, inl, inr, append_assoc, append-nil, refl}
 use Rattle.std.specs.Io.KnownBytes.{prepend_known, Consumes}
+use Rattle.http_heads.specs.Fields.{leave_due}
 use Rattle.http_heads.specs.Heads.{head_len, head_bytes, after_blank}
 use Rattle.http_heads.specs.Messages.{IsMessage, TellsLeave}
 use Rattle.http_heads.specs.Readings.{TellsExpects}
@@ -61,46 +62,57 @@ ahead-after (inl same) (inr waits) = inr (subst IsUnfinished same.1 waits)
 
 -- ---- leave
 
-told_message : {bytes rest : List ℕ} {known : Known} → IsMessage bytes (plain_request known) rest → ToldLeave bytes false
-told_message is = record { len = is.len; ends = is.has.ends; tells = TellsLeave-message is }
+not_due : (refuses : Bool) → leave_due refuses false false ≡ false
+not_due refuses = refl
+
+told_message : (refuses : Bool) {bytes rest : List ℕ} {known : Known} → IsMessage bytes (plain_request known) rest → ToldLeave refuses bytes false
+told_message refuses {bytes} is = record {
+  len = is.len;
+  ends = is.has.ends;
+  tells = subst (TellsLeave refuses bytes) (not_due refuses) (TellsLeave-message refuses is);
+}
 
 -- what the known head tells, where the bytes that are held begin with it
-pub told-known : (start : ℕ) (bytes items held : List ℕ) (found : Option ℕ) (known : Known) → bytes ≡ items → drop start items ≡ held
+pub told-known : (refuses : Bool) (start : ℕ) (bytes items held : List ℕ) (found : Option ℕ) (known : Known) → bytes ≡ items → drop start items ≡ held
     → (let front = take (length bytes - start) (drop start bytes) in IfSome found (λ len. IsMessage front (plain_request known) (drop len front)))
-    → is_some found ≡ true → ToldLeave held false
-told-known start bytes items held None known same view is some = cc
-told-known start bytes items held (Some len) known same view is some =
+    → is_some found ≡ true → ToldLeave refuses held false
+told-known refuses start bytes items held None known same view is some = cc
+told-known refuses start bytes items held (Some len) known same view is some =
     let whole : take (length bytes - start) (drop start bytes) ≡ held = rest_of_slice start bytes ∙ ap (drop start) same ∙ view in
-    subst (λ b. ToldLeave b false) whole (told_message is)
+    subst (λ b. ToldLeave refuses b false) whole (told_message refuses is)
 
 -- what the first bytes that are held tell, which are a head
-pub told-head : (len start : ℕ) (bytes items held : List ℕ) (awaited : Bool) → bytes ≡ items → drop start items ≡ held → head_len held ≡ Some len
-    → TellsExpects (after_blank (take len (take (length bytes - start) (drop start bytes)))) awaited → ToldLeave held awaited
-told-head len start bytes items held awaited same view ends tells =
+pub told-head : (refuses : Bool) (len start : ℕ) (bytes items held : List ℕ) (awaited : Bool) → bytes ≡ items → drop start items ≡ held
+    → head_len held ≡ Some len → TellsExpects refuses (after_blank (take len (take (length bytes - start) (drop start bytes)))) awaited
+    → ToldLeave refuses held awaited
+told-head refuses len start bytes items held awaited same view ends tells =
     let whole : take (length bytes - start) (drop start bytes) ≡ held = rest_of_slice start bytes ∙ ap (drop start) same ∙ view in
-    let is : TellsExpects (head_bytes len held) awaited = subst (λ b. TellsExpects (head_bytes len b) awaited) whole tells in
-    record { len = len; ends = ends; tells = TellsLeave-head held len awaited ends is }
+    let is : TellsExpects refuses (head_bytes len held) awaited = subst (λ b. TellsExpects refuses (head_bytes len b) awaited) whole tells in
+    record { len = len; ends = ends; tells = TellsLeave-head refuses held len awaited ends is }
 
-taken_leave : (mid new : List ℕ) (awaited : Bool) (more : List ℕ) → new ≡ mid ++ more → ToldLeave mid awaited → TellsLeave new awaited
-taken_leave mid new awaited more grown t =
-    subst (λ b. TellsLeave b awaited) (sym grown) (TellsLeave-append mid more t.len awaited t.ends t.tells)
+taken_leave : (refuses : Bool) (mid new : List ℕ) (awaited : Bool) (more : List ℕ) → new ≡ mid ++ more → ToldLeave refuses mid awaited
+    → TellsLeave refuses new awaited
+taken_leave refuses mid new awaited more grown t =
+    subst (λ b. TellsLeave refuses b awaited) (sym grown) (TellsLeave-append refuses mid more t.len awaited t.ends t.tells)
 
 -- what was told before a request was read is what was due
-pub leave-for : (mid new : List ℕ) (awaited : Bool) (answer : Got) → ToldLeave mid awaited → KeepsHeld mid new answer → LeaveFor answer new awaited
-leave-for mid new awaited (got.Request message) t k =
-    TellsLeave-unique (mid ++ k.0) message.expects awaited (TellsLeave-message k.1) (taken_leave mid (mid ++ k.0) awaited k.0 refl t)
-leave-for mid new awaited got.End t k =
-    TellsLeave-unique new awaited false (taken_leave mid new awaited k.0 k.1 t) (TellsLeave-blank k.2)
-leave-for mid new awaited (got.Cut n) t k = taken_leave mid new awaited k.0 k.1 t
-leave-for mid new awaited (got.Malformed fault) t k =
-    TellsLeave-unique new awaited false (taken_leave mid new awaited k.0 k.1 t) (TellsLeave-malformed new fault k.2)
-leave-for mid new awaited got.ReadFault t k = taken_leave mid new awaited k.0 k.1 t
-leave-for mid new awaited got.NoMemory t k = taken_leave mid new awaited k.0 k.1 t
+pub leave-for : (refuses : Bool) (mid new : List ℕ) (awaited : Bool) (answer : Got) → ToldLeave refuses mid awaited → KeepsHeld mid new answer
+    → LeaveFor refuses answer new awaited
+leave-for refuses mid new awaited (got.Request message) t k =
+    TellsLeave-unique refuses (mid ++ k.0) (leave_due refuses message.origin message.expects) awaited (TellsLeave-message refuses k.1)
+    (taken_leave refuses mid (mid ++ k.0) awaited k.0 refl t)
+leave-for refuses mid new awaited got.End t k =
+    TellsLeave-unique refuses new awaited false (taken_leave refuses mid new awaited k.0 k.1 t) (TellsLeave-blank k.2)
+leave-for refuses mid new awaited (got.Cut n) t k = taken_leave refuses mid new awaited k.0 k.1 t
+leave-for refuses mid new awaited (got.Malformed fault) t k =
+    TellsLeave-unique refuses new awaited false (taken_leave refuses mid new awaited k.0 k.1 t) (TellsLeave-malformed refuses new fault k.2)
+leave-for refuses mid new awaited got.ReadFault t k = taken_leave refuses mid new awaited k.0 k.1 t
+leave-for refuses mid new awaited got.NoMemory t k = taken_leave refuses mid new awaited k.0 k.1 t
 
 -- no leave is due where no head is whole
-pub leave-none : (held : List ℕ) (s : Stop) → head_len held ≡ None → LeaveFor (got_of s) held false
-leave-none held stop.End none = refl
-leave-none held (stop.Cut n) none = TellsLeave-none none
-leave-none held (stop.Malformed fault) none = refl
-leave-none held stop.ReadFault none = TellsLeave-none none
-leave-none held stop.NoMemory none = TellsLeave-none none
+pub leave-none : (refuses : Bool) (held : List ℕ) (s : Stop) → head_len held ≡ None → LeaveFor refuses (got_of s) held false
+leave-none refuses held stop.End none = refl
+leave-none refuses held (stop.Cut n) none = TellsLeave-none none
+leave-none refuses held (stop.Malformed fault) none = refl
+leave-none refuses held stop.ReadFault none = TellsLeave-none none
+leave-none refuses held stop.NoMemory none = TellsLeave-none none

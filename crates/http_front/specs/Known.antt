@@ -8,10 +8,18 @@ pub record Known : Type 0 where
   pub method : List ℕ
   pub target : List ℕ
 
--- a plain request has no body, and its connection stays open and asks for no other protocol
+-- a plain request has no body and no `Origin`, and its connection stays open and asks for no other protocol
 abbrev pub plain_request : Known → Request
 plain_request known =
-    record { method = known.method; target = known.target; body = []; last = false; expects = false; upgrade = None }
+    record {
+      method = known.method;
+      target = known.target;
+      body = [];
+      last = false;
+      expects = false;
+      upgrade = None;
+      origin = false;
+    }
 
 -- the head is the whole message that this plain request is; or it is empty, and nothing is known
 abbrev pub IsKnown : List ℕ → Known → Type 0

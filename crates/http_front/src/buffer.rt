@@ -1,5 +1,5 @@
 ghost use Rattle.std.specs.Prelude.{◌≡◌, ◌+◌, ◌<◌, ◌≤◌, [], Some, true, false, length, drop, vec_len, vec_capacity, IfOk, IfErr};
-ghost use Rattle.std.specs.Prelude.{IfSome, IfNone, OnErr};
+ghost use Rattle.std.specs.Prelude.{Bool, IfSome, IfNone, OnErr};
 ghost use Rattle.std.specs.Io.KnownBytes.{IsAtEnd};
 ghost use Rattle.size_values.specs.Causes.{HasCauseOrMemory};
 ghost use Rattle.http_heads.specs.Heads.{head_bytes, head_len};
@@ -129,21 +129,22 @@ impl Buffer {
 
     /// Whether the bytes begin with the head that was noted. Its request has no body.
     pub(crate) fn begins_known(&self) -> bool
-        ensures told { result ≡ true → ToldLeave self.now false }
+        ensures told { result ≡ true → ((refuses_origin : Bool) → ToldLeave refuses_origin self.now false) }
         ensures few { length self.now ≤ most_held }
     {
         self.known.begins(&self.bytes[self.start..]).is_some()
     }
 
-    /// Whether the head that the first `len` bytes are has its client wait for leave before it sends the body.
-    pub(crate) fn expects_leave(&mut self, len: usize) -> bool
+    /// Whether the head that the first `len` bytes are has its client wait for leave before it sends the body, and is not
+    /// refused for an `Origin`.
+    pub(crate) fn expects_leave(&mut self, len: usize, refuses_origin: bool) -> bool
         requires within { len ≤ length self.old }
         requires ends { head_len self.old ≡ Some len }
-        ensures told { ToldLeave self.new result }
+        ensures told { ToldLeave refuses_origin self.new result }
         ensures same { self.new ≡ self.old }
     {
         let held = &self.bytes[self.start..];
-        expects_leave(&held[..len], &mut self.spans)
+        expects_leave(&held[..len], &mut self.spans, refuses_origin)
     }
 
     /// Lets go of the first bytes, which a message has used.

@@ -66,6 +66,7 @@ impl KnownHead {
             last: false,
             expects: false,
             upgrade: None,
+            origin: false,
         })
     }
 
@@ -74,7 +75,7 @@ impl KnownHead {
         requires ends { head_len bytes.now ≡ Some (length bytes.now) }
         requires says { Says (after_blank bytes.now) head.now }
     {
-        if head.body == 0 && !head.last && head.upgrade.is_none() {
+        if head.body == 0 && !head.last && head.upgrade.is_none() && !head.origin {
             self.head.clear();
             self.method.set(head.method.view())?;
             self.target.set(head.target.view())?;

@@ -12,9 +12,14 @@ use crate::read::{Stop, await_head};
 use crate::source::Source;
 
 /// Whether the client of the next request waits for leave before it sends the body (`Expect: 100-continue`, RFC 9110,
-/// section 10.1.1). It reads on until a whole head is held, and takes nothing out of the buffer. Where no head becomes
-/// whole, it stops as `read_request` would.
-pub fn awaits_leave<S: Source>(buffer: &mut Buffer, source: &mut S) -> Result<bool, Stop>
+/// section 10.1.1), and is to have it: where requests with an `Origin` are refused, one that has it is to have none. It
+/// reads on until a whole head is held, and takes nothing out of the buffer. Where no head becomes whole, it stops as
+/// `read_request` would.
+pub fn awaits_leave<S: Source>(
+    buffer: &mut Buffer,
+    source: &mut S,
+    refuses_origin: bool,
+) -> Result<bool, Stop>
     // Bytes move from the source into the buffer, and only where no message is whole there.
     ensures takes { TakesIn buffer.old buffer.new (S.left source.old) (S.left source.new) }
     ensures ahead { ((source.new ≡ source.old) × (buffer.new ≡ buffer.old)) ⊎ IsUnfinished buffer.old }
@@ -22,7 +27,7 @@ pub fn awaits_leave<S: Source>(buffer: &mut Buffer, source: &mut S) -> Result<bo
     ensures later { S.failures source.old ≤ S.failures source.new }
 
     // The answer is that of the message that begins with the bytes held, whatever follows them.
-    ensures told { IfOk result (ToldLeave buffer.new) }
+    ensures told { IfOk result (ToldLeave refuses_origin buffer.new) }
 
     // A stop is what `read_request` answers, of the bytes to come and of the bytes held.
     ensures none { OnErr result (head_len buffer.new ≡ None) }
@@ -37,7 +42,7 @@ pub fn awaits_leave<S: Source>(buffer: &mut Buffer, source: &mut S) -> Result<bo
         return Ok(false);
     }
     match await_head(buffer, source) {
-        Ok(len) => Ok(buffer.expects_leave(len)),
+        Ok(len) => Ok(buffer.expects_leave(len, refuses_origin)),
         Err(stop) => Err(stop),
     }
 }

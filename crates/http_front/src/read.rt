@@ -172,6 +172,7 @@ fn take_request(
         last: head.last,
         expects: head.expects,
         upgrade: head.upgrade,
+        origin: head.origin,
     })
 }
 

@@ -8,7 +8,7 @@ use Rattle.std.proofs.lemmas.List.Elements.{All-weaker}
 use Rattle.std.proofs.lemmas.Bool.Decides.{nat_tests}
 use Rattle.httparse.specs.Grammar.{is_token_byte, IsToken}
 use Rattle.http_heads.specs.declared.request.HeadFault.{HeadFault}
-use Rattle.http_heads.specs.declared.request.HeadFault.TheVariants.{H1, H2, H3, H4}
+use Rattle.http_heads.specs.declared.request.HeadFault.TheVariants.{H1, H2, H3, H4, H5}
 use Rattle.http_heads.specs.Limits.{max_body}
 use Rattle.http_heads.specs.Fields.{values_of, is_length, length_in, length_of, framing, fields_of}
 use Rattle.http_heads.specs.Readings.{IsHeadWith, HasFault}
@@ -19,6 +19,7 @@ IsOfFields H1 = ⊥
 IsOfFields H2 = ⊥
 IsOfFields H3 = Unit {0}
 IsOfFields H4 = Unit {0}
+IsOfFields H5 = ⊥
 
 length_in-fault : (text : List ℕ) → IfErr (length_in text) IsOfFields
 unfolding length_in
@@ -54,6 +55,7 @@ HasFault-of_fields {text} fault h = by_fault fault h (subst (λ r. IfErr r IsOfF
     by_fault H2 g never = absurd never
     by_fault H3 g ok = g
     by_fault H4 g ok = g
+    by_fault H5 g never = absurd never
 
 token_byte-ascii : (b : ℕ) → IsTrue (is_token_byte b) → b < 128
 unfolding is_token_byte

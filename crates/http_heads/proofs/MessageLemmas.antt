@@ -8,9 +8,9 @@ use Rattle.httparse.proofs.GrammarLemmas.{request_unique}
 use Rattle.http_heads.specs.Limits.{max_head}
 use Rattle.http_heads.specs.declared.request.Request.{Request}
 use Rattle.http_heads.specs.declared.request.HeadFault.{HeadFault}
-use Rattle.http_heads.specs.declared.request.HeadFault.TheVariants.{H1, H2, H3, H4}
+use Rattle.http_heads.specs.declared.request.HeadFault.TheVariants.{H1, H2, H3, H4, H5}
 use Rattle.http_heads.specs.Heads.{blank_len, head_len, after_blank, head_bytes}
-use Rattle.http_heads.specs.Fields.{fields_of, framing, is_last, expects_leave}
+use Rattle.http_heads.specs.Fields.{fields_of, framing, is_last, has_origin, expects_leave}
 use Rattle.http_heads.specs.Upgrades.{upgrade_key}
 use Rattle.http_heads.specs.Messages.{IsHead, HasHead, IsMessage, IsBlank, IsCut, IsNoHead, IsTooLong, IsFramedBadly, IsMalformed, Ending, ended, cut, malformed, EndsAs, Begins, Splits}
 use Rattle.http_heads.specs.Readings.{IsHeadWith, HasFault}
@@ -42,6 +42,7 @@ IsMessage-append {bytes} {rest} {m} more h =
       last_is = h.last_is;
       expects_is = h.expects_is;
       upgrade_is = h.upgrade_is;
+      origin_is = h.origin_is;
       rest_is = ap (λ l. l ++ more) h.rest_is ∙ sym (drop-append-le (h.len + h.body) bytes more h.whole);
     }
 
@@ -68,6 +69,7 @@ IsMalformed-append bytes H1 more h = IsNoHead-append more h
 IsMalformed-append bytes H2 more h = IsTooLong-append more h
 IsMalformed-append bytes H3 more h = IsFramedBadly-append more h
 IsMalformed-append bytes H4 more h = IsFramedBadly-append more h
+IsMalformed-append bytes H5 more never = absurd never
 
 -- ---- one head
 
@@ -105,6 +107,7 @@ IsMalformed-fault bytes len H1 ends h = record { len = len; ends = ends; refuted
 IsMalformed-fault bytes len H2 ends h = absurd h
 IsMalformed-fault bytes len H3 ends h = IsFramedBadly-with len ends h
 IsMalformed-fault bytes len H4 ends h = IsFramedBadly-with len ends h
+IsMalformed-fault bytes len H5 ends never = absurd never
 
 -- ---- one thing
 
@@ -131,6 +134,7 @@ message_unique {bytes} {rest} {other} {m} {n} h k =
     let expects : m.expects ≡ n.expects =
     h.expects_is ∙ ap₂ expects_leave bodies heads.1 ∙ sym k.expects_is in
     let upgrade : m.upgrade ≡ n.upgrade = h.upgrade_is ∙ ap upgrade_key heads.1 ∙ sym k.upgrade_is in
+    let origin : m.origin ≡ n.origin = h.origin_is ∙ ap has_origin heads.1 ∙ sym k.origin_is in
     let body : m.body ≡ n.body = h.body_is ∙ ap₂ (λ b l. take b (drop l bytes)) bodies heads.0 ∙ sym k.body_is in (
       λ i. record {
         method = method i;
@@ -139,6 +143,7 @@ message_unique {bytes} {rest} {other} {m} {n} h k =
         last = last i;
         expects = expects i;
         upgrade = upgrade i;
+        origin = origin i;
       },
       h.rest_is ∙ ap₂ (λ l b. drop (l + b) bytes) heads.0 bodies ∙ sym k.rest_is,
     )
@@ -170,6 +175,7 @@ malformed_framed bytes H1 h k framed = no_head_has h k
 malformed_framed bytes H2 h k framed = none_some bytes h.none k.ends
 malformed_framed bytes H3 h k framed = badly_ok h k framed
 malformed_framed bytes H4 h k framed = badly_ok h k framed
+malformed_framed bytes H5 never k framed = absurd never
 
 malformed_message : {rest : List ℕ} {m : Request} (bytes : List ℕ) (f : HeadFault) → IsMalformed bytes f → IsMessage bytes m rest → ⊥
 malformed_message bytes f h k = malformed_framed bytes f h k.has k.framed
@@ -183,6 +189,7 @@ blank_malformed bytes H1 h k = none_some bytes (IsBlank-none h) k.ends
 blank_malformed bytes H2 h k = omega (arith, h.short, k.long)
 blank_malformed bytes H3 h k = none_some bytes (IsBlank-none h) k.has.ends
 blank_malformed bytes H4 h k = none_some bytes (IsBlank-none h) k.has.ends
+blank_malformed bytes H5 h never = absurd never
 
 cut_malformed : (bytes : List ℕ) (f : HeadFault) → IsCut bytes → IsMalformed bytes f → ⊥
 cut_malformed bytes H1 (inl h) k = none_some bytes h.none k.ends
@@ -193,6 +200,7 @@ cut_malformed bytes H1 (inr h) k = no_head_has k h.has
 cut_malformed bytes H2 (inr h) k = none_some bytes k.none h.has.ends
 cut_malformed bytes H3 (inr h) k = badly_ok k h.has h.framed
 cut_malformed bytes H4 (inr h) k = badly_ok k h.has h.framed
+cut_malformed bytes H5 h never = absurd never
 
 badly_unique : {bytes : List ℕ} {f g : HeadFault} → IsFramedBadly bytes f → IsFramedBadly bytes g → f ≡ g
 badly_unique h k = same_Err (sym h.framed ∙ same_framing h.has k.has ∙ k.framed)
@@ -214,6 +222,11 @@ malformed_unique bytes H4 H1 h k = absurd (no_head_has k h.has)
 malformed_unique bytes H4 H2 h k = absurd (none_some bytes k.none h.has.ends)
 malformed_unique bytes H4 H3 h k = badly_unique h k
 malformed_unique bytes H4 H4 h k = badly_unique h k
+malformed_unique bytes H5 g never k = absurd never
+malformed_unique bytes H1 H5 h never = absurd never
+malformed_unique bytes H2 H5 h never = absurd never
+malformed_unique bytes H3 H5 h never = absurd never
+malformed_unique bytes H4 H5 h never = absurd never
 
 -- what ends the messages of a text is no message
 pub ending_message : {rest : List ℕ} {m : Request} (bytes : List ℕ) (e : Ending) → EndsAs bytes e → IsMessage bytes m rest → ⊥

@@ -7,7 +7,7 @@ use Rattle.http_heads.specs.declared.request.HeadFault.{HeadFault}
 use Rattle.http_heads.specs.declared.request.HeadFault.TheVariants.{H1, H2}
 use Rattle.http_heads.specs.Limits.{max_head}
 use Rattle.http_heads.specs.Heads.{is_line_byte, head_end, head_len, head_bytes}
-use Rattle.http_heads.specs.Fields.{fields_of, framing, is_last, expects_leave}
+use Rattle.http_heads.specs.Fields.{fields_of, framing, is_last, has_origin, expects_leave}
 use Rattle.http_heads.specs.Upgrades.{upgrade_key}
 use Rattle.http_heads.specs.Messages.{HasHead, IsMessage, IsBlank, IsCut, Ending, ended, cut, malformed, EndsAs, Splits}
 use Rattle.http_heads.proofs.SearchLemmas.{head_end-blank, head_end-begins}
@@ -54,6 +54,7 @@ next_framed bytes len head has (Ok body) framed = by_length (cases_lt (length by
             last = is_last head;
             expects = expects_leave body head;
             upgrade = upgrade_key head;
+            origin = has_origin head;
           },
           drop (len + body) bytes,
           record {
@@ -69,6 +70,7 @@ next_framed bytes len head has (Ok body) framed = by_length (cases_lt (length by
             last_is = refl;
             expects_is = refl;
             upgrade_is = refl;
+            origin_is = refl;
             rest_is = refl;
           },
         )

@@ -1,5 +1,5 @@
 -- What the headers of a request say of its body, and whether they end the connection.
-use Rattle.std.specs.Prelude.{ℕ, ◌==◌, Bool, ◌||◌, ◌&&◌, nat_lt, nat_le, if◌then◌else◌, List, [], ◌∷◌, length, map}
+use Rattle.std.specs.Prelude.{ℕ, ◌==◌, Bool, not, ◌||◌, ◌&&◌, nat_lt, nat_le, if◌then◌else◌, List, [], ◌∷◌, length, map}
 use Rattle.std.specs.Prelude.{filter, Result, Ok, Err, codes}
 use Rattle.std.specs.List.{list_all, list_any, slice_split}
 use Rattle.std.specs.Char.{is_ascii_digit}
@@ -51,6 +51,14 @@ lists_word word value =
 abbrev pub some_lists : List ℕ → List ℕ → List (List ℕ × List ℕ) → Bool
 some_lists name word fields = list_any (lists_word word) (values_of name fields)
 
+-- some header has the name, in any ASCII case
+abbrev pub some_named : List ℕ → List (List ℕ × List ℕ) → Bool
+some_named name fields = list_any (λ field. str_eq_ignore_ascii_case field.0 name) fields
+
+-- a header is named `Origin`, as in what a web page has its browser send (RFC 6454, section 7)
+abbrev pub has_origin : RequestHead → Bool
+has_origin head = some_named (codes "origin") (fields_of head)
+
 -- the connection ends after this request: it is of HTTP/1.0, or a Connection header lists `close`
 abbrev pub is_last : RequestHead → Bool
 is_last head = head.minor == 0 || some_lists (codes "connection") (codes "close") (fields_of head)
@@ -63,3 +71,7 @@ expects_in body minor fields =
 
 abbrev pub expects_leave : ℕ → RequestHead → Bool
 expects_leave body head = expects_in body head.minor (fields_of head)
+
+-- leave is due to a client that waits for it, but where requests with an `Origin` are refused, and this is one
+abbrev pub leave_due : Bool → Bool → Bool → Bool
+leave_due refuses_origin origin expects = expects && not (refuses_origin && origin)

@@ -5,9 +5,9 @@ use Rattle.httparse.specs.Grammar.{RequestHead, ReadsRequest}
 use Rattle.http_heads.specs.Limits.{max_head, max_fields}
 use Rattle.http_heads.specs.declared.request.Request.{Request}
 use Rattle.http_heads.specs.declared.request.HeadFault.{HeadFault}
-use Rattle.http_heads.specs.declared.request.HeadFault.TheVariants.{H1, H2, H3, H4}
+use Rattle.http_heads.specs.declared.request.HeadFault.TheVariants.{H1, H2, H3, H4, H5}
 use Rattle.http_heads.specs.Heads.{blank_len, head_len, head_bytes}
-use Rattle.http_heads.specs.Fields.{fields_of, framing, is_last, expects_leave}
+use Rattle.http_heads.specs.Fields.{fields_of, framing, is_last, has_origin, expects_leave, leave_due}
 use Rattle.http_heads.specs.Upgrades.{upgrade_key}
 
 -- these bytes are a request head (RFC 9112) of at most 64 headers
@@ -34,21 +34,23 @@ pub record IsMessage (bytes : List ℕ) (message : Request) (rest : List ℕ) : 
   pub last_is : message.last ≡ is_last head
   pub expects_is : message.expects ≡ expects_leave body head
   pub upgrade_is : message.upgrade ≡ upgrade_key head
+  pub origin_is : message.origin ≡ has_origin head
   pub rest_is : rest ≡ drop (len + body) bytes
 
--- the head of a message is whole here, and its client waits for leave before it sends the body
-pub record AwaitsLeave (bytes : List ℕ) : Type 0 where
+-- The head of a message is whole here, and its client waits for leave before it sends the body, which is due where
+-- requests with an `Origin` are refused so.
+pub record AwaitsLeave (refuses_origin : Bool) (bytes : List ℕ) : Type 0 where
   pub len : ℕ
   pub head : RequestHead
   pub body : ℕ
   pub has : HasHead bytes len head
   pub framed : framing (fields_of head) ≡ Ok body
-  pub expects : expects_leave body head ≡ true
+  pub expects : leave_due refuses_origin (has_origin head) (expects_leave body head) ≡ true
 
--- whether leave is awaited here
-abbrev pub TellsLeave : List ℕ → Bool → Type 0
-TellsLeave bytes true = AwaitsLeave bytes
-TellsLeave bytes false = ¬ (AwaitsLeave bytes)
+-- whether leave is due here
+abbrev pub TellsLeave : Bool → List ℕ → Bool → Type 0
+TellsLeave refuses_origin bytes true = AwaitsLeave refuses_origin bytes
+TellsLeave refuses_origin bytes false = ¬ (AwaitsLeave refuses_origin bytes)
 
 -- only CR and LF stand here, too few to be a head that is too long
 pub record IsBlank (bytes : List ℕ) : Type 0 where
@@ -98,6 +100,7 @@ IsMalformed bytes H1 = IsNoHead bytes
 IsMalformed bytes H2 = IsTooLong bytes
 IsMalformed bytes H3 = IsFramedBadly bytes H3
 IsMalformed bytes H4 = IsFramedBadly bytes H4
+IsMalformed bytes H5 = ⊥
 
 -- where the messages of a text end
 pub data Ending : Type 0 where

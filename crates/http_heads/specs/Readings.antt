@@ -8,8 +8,8 @@ use Rattle.httparse.specs.declared.spans.HeaderSpan.{HeaderSpan}
 use Rattle.httparse.specs.declared.spans.RequestSpans.{RequestSpans}
 use Rattle.http_heads.specs.declared.head.Head.{Head}
 use Rattle.http_heads.specs.declared.request.HeadFault.{HeadFault}
-use Rattle.http_heads.specs.declared.request.HeadFault.TheVariants.{H1, H2, H3, H4}
-use Rattle.http_heads.specs.Fields.{fields_of, framing, is_last, expects_leave}
+use Rattle.http_heads.specs.declared.request.HeadFault.TheVariants.{H1, H2, H3, H4, H5}
+use Rattle.http_heads.specs.Fields.{fields_of, framing, is_last, has_origin, expects_leave, leave_due}
 use Rattle.http_heads.specs.Messages.{IsHead}
 use Rattle.http_heads.specs.Upgrades.{upgrade_key}
 
@@ -23,19 +23,20 @@ pub record Says (text : List ℕ) (said : Head) : Type 0 where
   pub last_is : said.last ≡ is_last head
   pub expects_is : said.expects ≡ expects_leave said.body head
   pub upgrade_is : said.upgrade ≡ upgrade_key head
+  pub origin_is : said.origin ≡ has_origin head
 
--- the text is a head that has its client wait for leave before it sends the body
-pub record Expects (text : List ℕ) : Type 0 where
+-- the text is a head whose client waits for leave before it sends the body, which is due
+pub record Expects (refuses_origin : Bool) (text : List ℕ) : Type 0 where
   pub head : RequestHead
   pub body : ℕ
   pub is : IsHead text head
   pub framed : framing (fields_of head) ≡ Ok body
-  pub expects : expects_leave body head ≡ true
+  pub expects : leave_due refuses_origin (has_origin head) (expects_leave body head) ≡ true
 
 -- whether it is such a head
-abbrev pub TellsExpects : List ℕ → Bool → Type 0
-TellsExpects text true = Expects text
-TellsExpects text false = ¬ (Expects text)
+abbrev pub TellsExpects : Bool → List ℕ → Bool → Type 0
+TellsExpects refuses_origin text true = Expects refuses_origin text
+TellsExpects refuses_origin text false = ¬ (Expects refuses_origin text)
 
 -- the text is a head with this fault in its headers
 pub record IsHeadWith (text : List ℕ) (fault : HeadFault) : Type 0 where
@@ -49,6 +50,7 @@ HasFault text H1 = (head : RequestHead) → ¬ (IsHead text head)
 HasFault text H2 = ⊥
 HasFault text H3 = IsHeadWith text H3
 HasFault text H4 = IsHeadWith text H4
+HasFault text H5 = ⊥
 
 -- the same where it was not out of memory
 abbrev pub HasReason : List ℕ → Or HeadFault → Type 0

@@ -4,7 +4,7 @@ ghost use Rattle.std.specs.Str.{str_eq_ignore_ascii_case};
 ghost use Rattle.httparse.specs.Grammar.{skip_ows, trim_ows};
 ghost use Rattle.httparse.specs.Spans.{IsWithin, IsHeaderWithin, span_bytes, header_bytes};
 ghost use Rattle.http_heads.specs.Limits.{max_body};
-ghost use Rattle.http_heads.specs.Fields.{values_of, length_in, framing, lists_word, some_lists, expects_in};
+ghost use Rattle.http_heads.specs.Fields.{values_of, length_in, framing, lists_word, some_lists, some_named, expects_in};
 
 use crate::request::{HeadFault, MAX_BODY};
 use httparse::spans::{HeaderSpan, Span};
@@ -98,6 +98,19 @@ pub(crate) fn some_lists(bytes: &[u8], headers: &[HeaderSpan], name: &[u8], word
 {
     for header in headers {
         if is_named(bytes, header.name, name) && lists_word(word, header.value.of(bytes)) {
+            return true;
+        }
+    }
+    false
+}
+
+/// Whether some header has this name.
+pub(crate) fn some_named(bytes: &[u8], headers: &[HeaderSpan], name: &[u8]) -> bool
+    requires { All (IsHeaderWithin (length bytes.now)) headers.now }
+    ensures { result ≡ some_named name.now (map (header_bytes bytes.now) headers.now) }
+{
+    for header in headers {
+        if is_named(bytes, header.name, name) {
             return true;
         }
     }

@@ -3,11 +3,12 @@ ghost use Rattle.httparse.specs.Grammar.{RequestHead};
 ghost use Rattle.httparse.specs.Spans.{IsWithin, IsHeaderWithin, span_bytes, header_bytes};
 ghost use Rattle.http_heads.specs.Heads.{after_blank};
 ghost use Rattle.http_heads.specs.Limits.{max_body, max_fields};
+ghost use Rattle.http_heads.specs.Fields.{leave_due};
 ghost use Rattle.http_heads.specs.Messages.{IsHead};
 ghost use Rattle.http_heads.specs.Readings.{Says, HasReason, AreParts, TellsExpects};
 ghost use Rattle.http_heads.specs.Upgrades.{key_in};
 
-use crate::fields::{expects_in, framing, some_lists};
+use crate::fields::{expects_in, framing, some_lists, some_named};
 use crate::request::{HeadFault, MAX_FIELDS};
 use crate::search::leading_line_bytes;
 use crate::upgrade::key_in;
@@ -19,7 +20,8 @@ use std::marker::Model;
 use std::mem;
 
 /// What a head says: the method, the target, the length of the body, whether the connection ends after it, whether its
-/// client waits for leave before it sends the body, and the key of the WebSocket handshake that it asks for.
+/// client waits for leave before it sends the body, the key of the WebSocket handshake that it asks for, and whether a
+/// header is named `Origin`.
 #[derive(Drop)]
 pub struct Head {
     pub method: Text,
@@ -28,6 +30,7 @@ pub struct Head {
     pub last: bool,
     pub expects: bool,
     pub upgrade: Option<Text>,
+    pub origin: bool,
 }
 
 /// The place in which `read_head` notes where the headers are. It is made once for many heads, and what a head leaves
@@ -82,28 +85,44 @@ pub fn read_head(
     }
 }
 
-/// Whether a whole head, with the CR and LF bytes before it, has its client wait for leave before it sends the body. No
-/// memory is taken.
-pub fn expects_leave(bytes: &[u8], places: &mut HeaderSpans) -> bool
-    ensures { TellsExpects (after_blank bytes.now) result }
+/// Whether a whole head, with the CR and LF bytes before it, has its client wait for leave before it sends the body, and
+/// is not refused for an `Origin`. No memory is taken.
+pub fn expects_leave(bytes: &[u8], places: &mut HeaderSpans, refuses_origin: bool) -> bool
+    ensures { TellsExpects refuses_origin (after_blank bytes.now) result }
 {
     let text = &bytes[leading_line_bytes(bytes)..];
     let headers = places.spans.as_mut_slice();
     match spans_of(text, headers) {
-        Some(spans) => expects_of(text, &headers[..spans.headers], &spans),
+        Some(spans) => expects_of(text, &headers[..spans.headers], &spans, refuses_origin),
         None => false,
     }
 }
 
 /// The same of a head with these parts.
-fn expects_of(text: &[u8], headers: &[HeaderSpan], spans: &RequestSpans) -> bool
+fn expects_of(
+    text: &[u8],
+    headers: &[HeaderSpan],
+    spans: &RequestSpans,
+    refuses_origin: bool,
+) -> bool
     requires { AreParts text.now headers.now spans.now }
-    ensures { TellsExpects text.now result }
+    ensures { TellsExpects refuses_origin text.now result }
 {
     match framing(text, headers) {
-        Ok(body) => expects_in(body, spans.version, text, headers),
+        Ok(body) => {
+            let expects = expects_in(body, spans.version, text, headers);
+            let origin = some_named(text, headers, b"origin");
+            leave_due(refuses_origin, origin, expects)
+        }
         Err(_) => false,
     }
+}
+
+/// Whether leave is due: the client waits for it, and the request is not refused for its `Origin`.
+fn leave_due(refuses_origin: bool, origin: bool, expects: bool) -> bool
+    ensures { result ≡ leave_due refuses_origin origin expects }
+{
+    expects && !(refuses_origin && origin)
 }
 
 /// Where the parts of a text are, if all of it is one head.
@@ -145,6 +164,7 @@ fn head_of(
     };
     let last = spans.version == 0 || some_lists(text, headers, b"connection", b"close");
     let expects = expects_in(body, spans.version, text, headers);
+    let origin = some_named(text, headers, b"origin");
     let method = text_in(alloc, &mut spare.method, str_of(spans.method.of(text)))?;
     let target = text_in(alloc, &mut spare.target, str_of(spans.path.of(text)))?;
     let upgrade = upgrade_of(alloc, text, headers, spans)?;
@@ -155,6 +175,7 @@ fn head_of(
         last,
         expects,
         upgrade,
+        origin,
     })
 }
 

@@ -23,7 +23,8 @@ pub fn limits_are_those_of_the_definitions()
 /// Content-Length bytes. `last` says that the connection ends after its reply: it is of HTTP/1.0, or a
 /// Connection header lists `close`. `expects` says that its client waits for leave before it sends the body: it
 /// has one, is of HTTP/1.1, and an Expect header lists `100-continue` (RFC 9110, section 10.1.1). `upgrade` is the
-/// key of the WebSocket handshake that it asks for, if it asks for one (RFC 6455, section 4.2.1).
+/// key of the WebSocket handshake that it asks for, if it asks for one (RFC 6455, section 4.2.1). `origin` says that a
+/// header is named `Origin`, as in what a web page has its browser send (RFC 6454, section 7).
 #[derive(Drop)]
 pub struct Request {
     pub method: Text,
@@ -32,6 +33,7 @@ pub struct Request {
     pub last: bool,
     pub expects: bool,
     pub upgrade: Option<Text>,
+    pub origin: bool,
 }
 
 /// What is wrong with the bytes in a request's place.
@@ -45,4 +47,6 @@ pub enum HeadFault {
     H3,
     /// The Content-Length is above 1,048,576.
     H4,
+    /// The request has an Origin header, and its door takes none. No bytes have this fault by themselves.
+    H5,
 }

@@ -1,4 +1,4 @@
-//! A server over TCP, whose jobs run on threads.
+//! A server whose jobs run on threads.
 ghost use Rattle.std.specs.Prelude.{◌≡◌, map, string_bytes};
 ghost use Rattle.command_words.specs.ServeWords.{serve_setup_of};
 
@@ -9,10 +9,11 @@ use host_model::ModelHost;
 use http_front::SystemClock;
 use record_keeper::Keeper;
 use serve_loop::Log;
-use server_main::{ServerJob, serve_main};
+use server_main::{ServerJob, ServerLogs, serve_main};
 use serving::{Doors, NetDoors, Spawner, Stop, status_of};
 use size_values::Seq;
 use std::alloc::Global;
+use std::fs::Files;
 use std::marker::{Brand, PhantomData};
 use std::net::{Net, TcpListener, TcpStream};
 use std::sync::Wait;
@@ -28,7 +29,7 @@ struct Beginning<'a, D, R, L, T, O> {
     doors: D,
     keeper: R,
     boot: u64,
-    log: O,
+    logs: ServerLogs<O>,
     blank: Blank,
     ledger: PhantomData<L>,
 }
@@ -66,14 +67,14 @@ where
             mut doors,
             keeper,
             boot,
-            log,
+            logs,
             blank,
             ledger: _,
         } = self;
         let host = ModelHost::new(alloc, Seq::new(alloc));
         let clock = SystemClock::new(system);
         serve_main::<R, ModelHost, SystemClock<T>, L, T, D, P, O>(
-            system, alloc, words, &mut doors, spawner, keeper, host, clock, boot, log, blank,
+            system, alloc, words, &mut doors, spawner, keeper, host, clock, boot, logs, blank,
         )
     }
 }
@@ -86,13 +87,13 @@ fn serve_at<L, R, T, O>(
     doors: NetDoors<T, DoorNotes>,
     keeper: R,
     boot: u64,
-    log: O,
+    logs: ServerLogs<O>,
     blank: Blank,
 ) -> (u8, Option<R>)
 where
     L: Ledger + Send + Sync + 'static,
     R: Keeper + Drop + Send + 'static,
-    T: Net<Listener = TcpListener, Stream = TcpStream> + Threads + Wait + time::Clock,
+    T: Net<Listener = TcpListener, Stream = TcpStream> + Files + Threads + Wait + time::Clock,
     T: Copy + Drop + Send + Sync + 'static,
     O: Log + Copy + Drop + Send + 'static,
     requires doors { doors.given ≡ 0 }
@@ -107,15 +108,15 @@ where
         doors,
         keeper,
         boot,
-        log,
+        logs,
         blank,
         ledger: PhantomData,
     };
     on_threads(system, alloc, beginning)
 }
 
-/// The same over TCP, at a ledger of its own, with a part for each ticket, until the server stops. The port is listened
-/// on once the rows are opened. The boot word is that of the ids of operations.
+/// The same at a port, a socket file or both, at a ledger of its own, with a part for each ticket, until the server
+/// stops. They are listened on once the rows are opened. The boot word is that of the ids of operations.
 pub(crate) fn serve_over<R, T, O>(
     rt: HostRuntime,
     system: T,
@@ -124,19 +125,19 @@ pub(crate) fn serve_over<R, T, O>(
     keeper: R,
     stop: Stop,
     boot: u64,
-    log: O,
+    logs: ServerLogs<O>,
 ) -> (u8, Option<R>)
 where
     R: Keeper + Drop + Send + 'static,
-    T: Net<Listener = TcpListener, Stream = TcpStream> + Threads + Wait + time::Clock,
+    T: Net<Listener = TcpListener, Stream = TcpStream> + Files + Threads + Wait + time::Clock,
     T: Copy + Drop + Send + Sync + 'static,
     O: Log + Copy + Drop + Send + 'static,
     requires { setup.tickets ≡ (serve_setup_of (map (λ w. string_bytes w) words.now)).tickets }
 {
-    let doors = match doors_of(rt, system, setup, stop) {
+    let doors = match doors_of(rt, system, &setup, stop) {
         Ok(doors) => doors,
         Err(trouble) => return (status_of(Err(trouble)), Some(keeper)),
     };
     let blank = Blank::new(u64::from(setup.tickets));
-    serve_at::<Brand, R, T, O>(system, rt.alloc(), words, doors, keeper, boot, log, blank)
+    serve_at::<Brand, R, T, O>(system, rt.alloc(), words, doors, keeper, boot, logs, blank)
 }

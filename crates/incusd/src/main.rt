@@ -1,5 +1,5 @@
-//! `incusd`: answers the requests of connections to 127.0.0.1, each on a thread of its own, over a
-//! modelled host, and over rows in memory or in a file, by the clock of the system
+//! `incusd`: answers the requests of connections to 127.0.0.1 and to a socket file, each on a thread of
+//! its own, over a modelled host, and over rows in memory or in a file, by the clock of the system
 //! (`command_words::serve_help`).
 #![tactic(auto)]
 

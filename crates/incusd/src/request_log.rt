@@ -27,15 +27,17 @@ const DIGITS: &str = "0123456789abcdef";
 pub(crate) struct RequestLog {
     rt: HostRuntime,
     is_on: bool,
-    port: u16,
+    /// The port that requests come to; None where that is a socket file.
+    port: Option<u16>,
     boot: u64,
     /// The microseconds since 1970 at which the last request had come; 0 where the clock told none.
     came: u64,
 }
 
 impl RequestLog {
-    /// The log of a server at this port of 127.0.0.1. The boot word is that of the ids of operations.
-    pub(crate) fn new(rt: HostRuntime, is_on: bool, port: u16, boot: u64) -> RequestLog {
+    /// The log of what comes to this port of 127.0.0.1, or to a socket file. The boot word is that of the ids of
+    /// operations.
+    pub(crate) fn new(rt: HostRuntime, is_on: bool, port: Option<u16>, boot: u64) -> RequestLog {
         RequestLog {
             rt,
             is_on,
@@ -71,15 +73,15 @@ impl RequestLog {
     ) -> Result<String, NoMemory> {
         let alloc = self.rt.alloc();
         let time = self.moment_text()?;
+        let address = address_text(alloc, self.port)?;
         let method = method_text(alloc, request)?;
         let target = target_text(alloc, request)?;
         let code = number_text(alloc, code.map(u128::from))?;
         let rule = rule_text(rule);
         let micros = number_text(alloc, self.elapsed())?;
         Ok(format!(in alloc;
-            "{} 127.0.0.1:{} {method} {target} {code} {rule} {micros}\n",
-            time.view(),
-            self.port
+            "{} {address} {method} {target} {code} {rule} {micros}\n",
+            time.view()
         )?)
     }
 
@@ -141,6 +143,14 @@ fn report_word(report: Report) -> &'static str {
         Report::Done => "done",
         Report::Failed(_) => "failed",
         Report::NoMemory => "no-memory",
+    }
+}
+
+/// The address that was asked: that of a port, or the word for a socket file.
+fn address_text(alloc: Global, port: Option<u16>) -> Result<String, NoMemory> {
+    match port {
+        Some(port) => Ok(format!(in alloc; "127.0.0.1:{port}")?),
+        None => Ok(String::from_str(alloc, "unix")?),
     }
 }
 

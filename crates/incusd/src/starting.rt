@@ -8,10 +8,12 @@ use crate::listening::serve_over;
 use crate::request_log::RequestLog;
 use crate::telling::PROGRAM;
 use crate::told_keeper::ToldKeeper;
-use command_words::{RowsPath, serve_setup_of};
+use command_words::{RowsPath, ServeSetup, serve_setup_of};
 use http_front::{Clock, SystemClock};
 use program_start::{RowsKeeper, StartFault, end_rows};
+use server_main::ServerLogs;
 use size_values::Seq;
+use std::fs::Files;
 use std::net::{Net, TcpListener, TcpStream};
 use std::sync::Wait;
 use std::thread::Threads;
@@ -27,7 +29,7 @@ fn serve_rows<T>(
     path: RowsPath,
 ) -> u8
 where
-    T: Net<Listener = TcpListener, Stream = TcpStream> + Threads + Wait + time::Clock,
+    T: Net<Listener = TcpListener, Stream = TcpStream> + Files + Threads + Wait + time::Clock,
     T: Copy + Drop + Send + Sync + 'static,
     requires { listening.tickets ≡ (serve_setup_of (map (λ w. string_bytes w) words.now)).tickets }
 {
@@ -43,8 +45,8 @@ where
     let keeper = RowsKeeper::at(rt, path, Seq::new(rt.alloc()), true);
     let keeper = ToldKeeper::over(rt, keeper, twin);
     let boot = SystemClock::new(system).now();
-    let log = RequestLog::new(rt, listening.logs, listening.port, boot);
-    let (status, back) = serve_over(rt, system, words, listening, keeper, stop, boot, log);
+    let logs = logs_of(rt, &listening, boot);
+    let (status, back) = serve_over(rt, system, words, listening, keeper, stop, boot, logs);
     if let Some(keeper) = back {
         let mut keeper = keeper.into_keeper();
         end_rows(rt, PROGRAM, status, &mut keeper);
@@ -57,26 +59,52 @@ where
     }
 }
 
+/// The logs of a server that listens so.
+fn logs_of(rt: HostRuntime, listening: &Listening, boot: u64) -> ServerLogs<RequestLog> {
+    let at_socket = RequestLog::new(rt, listening.logs, None, boot);
+    ServerLogs {
+        port: RequestLog::new(rt, listening.logs, listening.port, boot),
+        socket: at_socket,
+        workers: at_socket,
+    }
+}
+
 /// Serves as the words say, and gives the exit status. Where they are not read, nothing is opened.
 pub fn serve<T>(rt: HostRuntime, system: T, words: &[String]) -> u8
 where
-    T: Net<Listener = TcpListener, Stream = TcpStream> + Threads + Wait + time::Clock,
+    T: Net<Listener = TcpListener, Stream = TcpStream> + Files + Threads + Wait + time::Clock,
     T: Copy + Drop + Send + Sync + 'static,
 {
     let Ok(setup) = serve_setup_of(rt.alloc(), words) else {
         return StartFault::NoMemory.status();
     };
+    let ServeSetup {
+        port,
+        socket,
+        rows,
+        idle,
+        stops,
+        logs,
+        tickets,
+    } = setup;
+    if port.is_none() && socket.is_none() {
+        return StartFault::Words.status();
+    }
     let listening = Listening {
-        port: u16::try_from(setup.port).unwrap_or(0),
-        idle: setup.idle,
-        stops: setup.stops,
-        logs: setup.logs,
-        tickets: setup.tickets,
+        port: port_number(port),
+        socket,
+        idle,
+        stops,
+        logs,
+        tickets,
     };
-    let rows = setup.rows;
-    if listening.port == 0 {
-        StartFault::Words.status()
-    } else {
-        serve_rows(rt, system, words, listening, rows)
+    serve_rows(rt, system, words, listening, rows)
+}
+
+/// A port of TCP, which the words give as a number of 16 bits.
+fn port_number(port: Option<u32>) -> Option<u16> {
+    match port {
+        Some(port) => u16::try_from(port).ok(),
+        None => None,
     }
 }

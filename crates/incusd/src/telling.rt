@@ -1,7 +1,7 @@
 //! What standard error tells a person of a server.
 use program_start::{tell, tell_line};
-use serving::DoorEvents;
-use size_values::NoMemory;
+use serving::{DoorEvents, DoorFault, Places};
+use size_values::{NoMemory, Text};
 use std::alloc::Global;
 use std::io::ErrorKind;
 use std::thread;
@@ -16,12 +16,39 @@ const REST: u64 = 100;
 /// How many seconds nothing is told of failed accepts after a line that told of one.
 const QUIET: u64 = 60;
 
-/// The line that says where the server listens, or that it doesn't.
-fn address_line(alloc: Global, port: u16, is_listening: bool) -> Result<String, NoMemory> {
-    if is_listening {
-        Ok(format!(in alloc; "{PROGRAM}: listening on http://127.0.0.1:{port}\n")?)
-    } else {
-        Ok(format!(in alloc; "{PROGRAM}: the port {port} can't be listened on\n")?)
+/// The lines that say where the server listens.
+fn port_line(alloc: Global, port: u16) -> Result<String, NoMemory> {
+    Ok(format!(in alloc; "{PROGRAM}: listening on http://127.0.0.1:{port}\n")?)
+}
+
+fn socket_line(alloc: Global, path: &Text) -> Result<String, NoMemory> {
+    Ok(format!(in alloc; "{PROGRAM}: listening on the socket {}\n", path.view())?)
+}
+
+/// The line that says why it doesn't.
+fn fault_line(alloc: Global, places: &Places, fault: DoorFault) -> Result<String, NoMemory> {
+    let why = fault_text(fault);
+    match (fault, &places.port, &places.socket) {
+        (DoorFault::Port, Some(port), _) => {
+            Ok(format!(in alloc; "{PROGRAM}: the port {port} can't be listened on\n")?)
+        }
+        (_, _, Some(path)) => {
+            let path = path.view();
+            Ok(format!(in alloc; "{PROGRAM}: the socket {path} can't be listened on: {why}\n")?)
+        }
+        _ => Ok(format!(in alloc; "{PROGRAM}: it can't listen: {why}\n")?),
+    }
+}
+
+/// Why a place can't be listened on.
+fn fault_text(fault: DoorFault) -> &'static str {
+    match fault {
+        DoorFault::LongPath => "its path is longer than the system takes",
+        DoorFault::NoFolder => "its folder is missing",
+        DoorFault::NoSocket => "a file that is no socket is there",
+        DoorFault::Live => "a server listens there",
+        DoorFault::Denied => "this user may not make or use it",
+        DoorFault::Port | DoorFault::System => "the system refuses it",
     }
 }
 
@@ -30,15 +57,15 @@ fn address_line(alloc: Global, port: u16, is_listening: bool) -> Result<String, 
 #[derive(Drop)]
 pub(crate) struct DoorNotes {
     rt: HostRuntime,
-    port: u16,
+    places: Places,
     told: Option<Instant>,
 }
 
 impl DoorNotes {
-    pub(crate) fn new(rt: HostRuntime, port: u16) -> DoorNotes {
+    pub(crate) fn new(rt: HostRuntime, places: Places) -> DoorNotes {
         DoorNotes {
             rt,
-            port,
+            places,
             told: None,
         }
     }
@@ -53,11 +80,18 @@ impl DoorNotes {
 }
 
 impl DoorEvents for DoorNotes {
-    fn opened(&mut self, is_listening: bool) {
-        tell_line(
-            self.rt,
-            address_line(self.rt.alloc(), self.port, is_listening),
-        );
+    fn opened(&mut self) {
+        let alloc = self.rt.alloc();
+        if let Some(port) = self.places.port {
+            tell_line(self.rt, port_line(alloc, port));
+        }
+        if let Some(path) = &self.places.socket {
+            tell_line(self.rt, socket_line(alloc, path));
+        }
+    }
+
+    fn refused(&mut self, fault: DoorFault) {
+        tell_line(self.rt, fault_line(self.rt.alloc(), &self.places, fault));
     }
 
     fn failed(&mut self, kind: ErrorKind) {

@@ -1,5 +1,5 @@
 -- The bytes of replies, and what is written for them.
-use Rattle.std.specs.Prelude.{◌≡◌, ◌≢◌, ℕ, List, [], Bool, true, if◌then◌else◌, codes}
+use Rattle.std.specs.Prelude.{◌≡◌, ◌≢◌, ℕ, List, [], Bool, true, false, if◌then◌else◌, codes}
 use Rattle.std.specs.Str.{bytes_eq}
 use Rattle.http_heads.specs.declared.request.Request.{Request}
 use Rattle.http_heads.specs.declared.request.HeadFault.{HeadFault}
@@ -40,6 +40,7 @@ rule_of fault.H1 = rule.H1
 rule_of fault.H2 = rule.H2
 rule_of fault.H3 = rule.H3
 rule_of fault.H4 = rule.H4
+rule_of fault.H5 = rule.H5
 
 -- no boot word, in the plain dialect
 abbrev pub no_terms : Terms

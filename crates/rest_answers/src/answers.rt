@@ -148,6 +148,7 @@ fn rule_of(fault: HeadFault) -> Rule
         HeadFault::H2 => Rule::H2,
         HeadFault::H3 => Rule::H3,
         HeadFault::H4 => Rule::H4,
+        HeadFault::H5 => Rule::H5,
     }
 }
 

@@ -9,11 +9,11 @@ use Rattle.size_values.specs.Causes.{RoseBy}
 use Rattle.size_values.specs.Moments.{moment_limit}
 use Rattle.http_front.specs.Clocks.{Readings, Reads, after_next}
 use Rattle.records.specs.declared.commands.Command.{Command}
-use Rattle.records.specs.declared.refusals.Refusal.{Refusal}
 use Rattle.records.specs.declared.replies.Reply.{Reply}
 use Rattle.row_machine.specs.declared.events.Answer.{Answer}
 use Rattle.row_machine.specs.machine.State.{State}
 use Rattle.row_machine.specs.machine.Step.{Outcome}
+use Rattle.rest_json.specs.declared.terms.Terms.{Terms}
 use Rattle.start_faults.specs.core_reports.specs.Stores.{KeepsRecords}
 use Rattle.serial_steps.specs.Steps.{SerialWorld, Step, StepsTo, StepsWhile}
 use Rattle.serial_steps.specs.Counts.{ComesTo, failed_commits, moments_in, keeper_failures_in, host_failures_in}
@@ -81,7 +81,7 @@ along_twice {a} {b} {c} {xs} {ys} {j} {k} {m} {n} first then = record {
   later_twice before now after first then = omega arith
 
 -- what was asked for at one moment
-along_carries : {w w' : SerialWorld} {asked : Result Command Refusal} {moment : Option ℕ} {outcome : Outcome} {a : Answer}
+along_carries : {w w' : SerialWorld} {asked : Result Command Reply} {moment : Option ℕ} {outcome : Outcome} {a : Answer}
     → Carries w asked moment outcome a w' → IsAlong w (option_to_list moment) (failed_commits outcome) 0 w'
 along_carries {w} {w'} {asked} {moment} {outcome} {a} h = record {
   clock = h.clock.read;
@@ -127,7 +127,7 @@ along_paced (pace.Steps count) w w' steps h = along_steps w w' steps (anyhow _ w
 along_paced pace.All w w' steps h = along_steps w w' steps (anyhow _ w w' steps h.0.made)
 
 -- a command whose answer was held back
-along_held : {w w' : SerialWorld} {asked : Result Command Refusal} {moment : Option ℕ} {outcome : Outcome} {h : Held} {r : Reply} → HeldBack w asked moment outcome h r w'
+along_held : {w w' : SerialWorld} {asked : Result Command Reply} {moment : Option ℕ} {outcome : Outcome} {h : Held} {r : Reply} → HeldBack w asked moment outcome h r w'
     → IsAlong w (option_to_list moment ++ held_moments (Some h))
     (failed_commits outcome + held_keeper_failures (Some h)) (held_host_failures (Some h)) w'
 along_held {w} {w'} {asked} {moment} {outcome} {h} {r} held =
@@ -140,7 +140,7 @@ along_held {w} {w'} {asked} {moment} {outcome} {h} {r} held =
       plain n = omega arith
 
 -- what was asked for, at once or after its answer was held back
-along_answered : (w w' : SerialWorld) (asked : Result Command Refusal) (moment : Option ℕ) (outcome : Outcome)
+along_answered : (w w' : SerialWorld) (asked : Result Command Reply) (moment : Option ℕ) (outcome : Outcome)
     (held : Option Held) (r : Reply) → IsAnswered w asked moment outcome held r w'
     → IsAlong w (option_to_list moment ++ held_moments held) (failed_commits outcome + held_keeper_failures held)
     (held_host_failures held) w'
@@ -149,15 +149,15 @@ along_answered w w' asked moment outcome (Some held) r h = along_held h
 
 -- ---- exchanges
 
-pub along_reply : (boot : ℕ) (w w' : SerialWorld) (e : Exchange) → Comes boot w e w'
+pub along_reply : (terms : Terms) (w w' : SerialWorld) (e : Exchange) → Comes terms w e w'
     → IsAlong w (option_to_list e.moment ++ held_moments e.held)
     (failed_commits e.outcome + held_keeper_failures e.held) (held_host_failures e.held) w'
-along_reply boot w w' e h = along_answered w w' (command_of e.request boot) e.moment e.outcome e.held e.reply h
+along_reply terms w w' e h = along_answered w w' (command_of e.request terms) e.moment e.outcome e.held e.reply h
 
-pub along_leads : {boot : ℕ} {follows : Pace} {w w' : SerialWorld} {e : Exchange} → Leads boot follows w e w'
+pub along_leads : {terms : ℕ} {follows : Pace} {w w' : SerialWorld} {e : Exchange} → Leads terms follows w e w'
     → IsAlong w (moments_at e) (keeper_failures_at e) (host_failures_at e) w'
-along_leads {boot} {follows} {w} {w'} {e} h =
-    along_twice (along_reply boot w h.replied e h.comes) (along_paced follows h.replied w' e.steps h.paced)
+along_leads {terms} {follows} {w} {w'} {e} h =
+    along_twice (along_reply terms w h.replied e h.comes) (along_paced follows h.replied w' e.steps h.paced)
 
 -- an exchange, and then more of them
 pub along_more : {w v w' : SerialWorld} (e : Exchange) (more : List Exchange)

@@ -1,15 +1,12 @@
 -- One request comes to its reply, from what its parts ensure.
-use Rattle.std.proofs.Common.{◌≡◌, ◌≤◌, ◌<◌, ℕ, Bool, true, false, ◌&&◌, List, [], ◌∷◌, length, Some, None, Result, Ok, Err}
-use Rattle.std.proofs.Common.{refl, sym, subst, ap, codes}
+use Rattle.std.proofs.Common.{◌≡◌, ◌⊎◌, ◌≤◌, ◌<◌, ℕ, Bool, true, false, ◌&&◌, List, [], ◌∷◌, length, Some, None, Result, Ok, Err}
+use Rattle.std.proofs.Common.{refl, sym, subst, ap, codes, inl, inr}
 use Rattle.std.specs.Str.{bytes_eq}
 use Rattle.std.proofs.lemmas.Slice.Eq.{bytes_eq-Decides}
 use Rattle.size_values.specs.Moments.{moment_limit}
-use Rattle.size_values.specs.declared.memory.Or.{Or}
-use Rattle.size_values.specs.declared.memory.Or.TheVariants as or
 use Rattle.http_front.specs.Clocks.{Reads}
 use Rattle.http_heads.specs.declared.request.Request.{Request}
 use Rattle.records.specs.declared.commands.Command.{Command}
-use Rattle.records.specs.declared.refusals.Refusal.{Refusal}
 use Rattle.records.specs.declared.replies.Reply.{Reply}
 use Rattle.records.specs.declared.replies.Reply.TheVariants as reply
 use Rattle.records.specs.declared.replies.View.TheVariants as view
@@ -19,11 +16,10 @@ use Rattle.row_machine.specs.declared.events.Event.TheVariants as event
 use Rattle.row_machine.specs.machine.State.{State}
 use Rattle.row_machine.specs.machine.Accept.{and_then}
 use Rattle.row_machine.specs.machine.Step.{well, no_memory}
+use Rattle.rest_json.specs.declared.terms.Terms.{Terms}
 use Rattle.start_faults.specs.core_rows.specs.Asked.{answered}
-use Rattle.start_faults.specs.core_judging.specs.Judged.{reply_for}
 use Rattle.serial_steps.specs.core_turns.specs.Turns.{IsTurn}
 use Rattle.serial_steps.specs.Steps.{SerialWorld, Step, WaitsFor, most_steps}
-use Rattle.rest_routes.specs.Answers.{IsDue}
 use Rattle.rest_answers.specs.Asked.{showing}
 use Rattle.rest_answers.specs.Texts.{HasText, asks_head}
 use Rattle.rest_answers.specs.declared.answers.PrintedReply.{PrintedReply}
@@ -73,12 +69,12 @@ asked_by_get request is = ap (λ m. bytes_eq m (codes "HEAD")) ((bytes_eq-Decide
     (both (bytes_eq request.method (codes "GET")) (bytes_eq request.target (codes "/1.0")) is).0)
 
 -- who asks for the server was told of it, by the text that stands ready
-pub server-replied : (boot : ℕ) (w w' : SerialWorld) (request : Request) (result : PrintedReply) (moment : ℕ)
-    → command_of request boot ≡ Ok server_asked
+pub server-replied : (terms : Terms) (w w' : SerialWorld) (request : Request) (result : PrintedReply) (moment : ℕ)
+    → command_of request terms ≡ Ok server_asked
     → IsTurn w.serial.state w.store (event.Ask server_asked moment) (answer.Reply (reply.One view.Server)) w'.serial.state w'.store
     → w'.serial.hand ≡ w.serial.hand → w'.host ≡ w.host → Reads w.clock (moment ∷ []) w'.clock → moment < moment_limit
-    → HasText result (reply.One view.Server) boot request → Answers boot w w' request result
-server-replied boot w w' request result moment asked turn hand host read early text = record {
+    → HasText result (reply.One view.Server) terms request → Answers terms w w' request result
+server-replied terms w w' request result moment asked turn hand host read early text = record {
   reply = reply.One view.Server;
   reaches =
       subst (λ asks. Reaches w asks (reply.One view.Server) w') (sym asked)
@@ -123,9 +119,9 @@ held_back {w} {v} {u} {w'} {c} {moment} {a} {op} steps r asks is waits few shows
 
 -- ---- requests that ask for no command
 
--- a request that is refused by its form
-refusal_replies : (w : SerialWorld) (refusal : Refusal) → Reaches w (Err refusal) (reply.Refused refusal) w
-refusal_replies w refusal = record {
+-- a request that was read as this reply
+read_replies : (w : SerialWorld) (said : Reply) → Reaches w (Err said) said w
+read_replies w said = record {
   moment = None;
   outcome = well;
   held = None;
@@ -141,12 +137,12 @@ refusal_replies w refusal = record {
 }
 
 -- memory may be refused before the command of any request is known, and then nothing changes
-refused_memory : (s : State) (asked : Result Command Refusal)
+refused_memory : (s : State) (asked : Result Command Reply)
     → carried_out s None no_memory asked ≡ Some (and_then answer.NoMemory s)
 refused_memory s (Ok c) = refl
-refused_memory s (Err refusal) = refl
+refused_memory s (Err said) = refl
 
-memory_replies : (w : SerialWorld) (asked : Result Command Refusal) → Reaches w asked reply.NoMemory w
+memory_replies : (w : SerialWorld) (asked : Result Command Reply) → Reaches w asked reply.NoMemory w
 memory_replies w asked = record {
   moment = None;
   outcome = no_memory;
@@ -163,8 +159,7 @@ memory_replies w asked = record {
 }
 
 -- whatever its reason
-pub unrouted : (w : SerialWorld) (asked : Result Command Refusal) (why : Or Refusal) → IsDue why asked
-    → Reaches w asked (reply_for why) w
-unrouted w asked or.NoMemory due = memory_replies w asked
-unrouted w asked (or.Why refusal) due =
-    subst (λ x. Reaches w x (reply.Refused refusal) w) (sym due) (refusal_replies w refusal)
+pub unrouted : (w : SerialWorld) (asked : Result Command Reply) (said : Reply)
+    → (said ≡ reply.NoMemory) ⊎ (asked ≡ Err said) → Reaches w asked said w
+unrouted w asked said (inl none) = subst (λ r. Reaches w asked r w) (sym none) (memory_replies w asked)
+unrouted w asked said (inr is) = subst (λ x. Reaches w x said w) (sym is) (read_replies w said)

@@ -8,12 +8,14 @@ use Rattle.start_faults.specs.core_rows.specs.Opening.{OpensTo, Refuses}
 use Rattle.start_faults.specs.core_rows.specs.declared.opening.OpenFault.{OpenFault}
 use Rattle.start_faults.specs.core_rows.specs.declared.opening.OpenFault.TheVariants as fault
 use Rattle.serial_steps.specs.Steps.{Hosted, Serial}
+use Rattle.rest_json.specs.declared.terms.Dialect.TheVariants.{Plain}
+use Rattle.rest_json.specs.declared.terms.Terms.{Terms}
 use Rattle.command_words.specs.declared.run_words.RunWords.{RunWords}
-use Rattle.command_words.specs.RunWords.{as_run, boot_of, is_run, now_of, pace_of, words_of}
+use Rattle.command_words.specs.RunWords.{as_run, boot_of, dialect_of, is_run, now_of, pace_of, words_of}
 use Rattle.command_words.specs.declared.run_words.CommandWords.TheVariants.{Run}
 use Rattle.command_words.specs.declared.run_words.Pace.{Pace}
 use Rattle.command_words.specs.declared.run_words.Pace.TheVariants.{All}
-use Rattle.serial_run.specs.Runs.{HasCauseToRefuse, IsUnread, Opened, Refused, Runs, RunsOver, Unopened, boot_with}
+use Rattle.serial_run.specs.Runs.{HasCauseToRefuse, IsUnread, Opened, Refused, Runs, RunsOver, Unopened, terms_with}
 use Rattle.serial_run.specs.Inputs.{status_of}
 use Rattle.start_faults.specs.Starts.{start_fault}
 use Rattle.serial_run.specs.Runs.{SessionFrom, begun, clock_of}
@@ -27,6 +29,7 @@ pub record AreSaid (words : List (List ℕ)) (said : RunWords) : Type 0 where
   pub now : said.now ≡ now_of words
   pub pace : said.pace ≡ pace_of words
   pub boot : said.boot ≡ boot_of words
+  pub dialect : said.dialect ≡ dialect_of words
 
 pub words_said : (words : List (List ℕ)) (said : RunWords) → words_of words ≡ Some (Run said) → AreSaid words said
 words_said words said is = record {
@@ -34,16 +37,28 @@ words_said words said is = record {
   now = sym (ap (λ o. option_and_then (λ (run : RunWords). run.now) (option_and_then as_run o)) is);
   pace = sym (ap (λ o. option_map_or (λ (run : RunWords). run.pace) (option_and_then as_run o) All) is);
   boot = sym (ap (λ o. option_and_then (λ (run : RunWords). run.boot) (option_and_then as_run o)) is);
+  dialect = sym (ap (λ o. option_map_or (λ (run : RunWords). run.dialect) (option_and_then as_run o) Plain) is);
 }
 
--- a run with the boot word and the pace that were read
-pub as_said : (words : List (List ℕ)) (handed : ℕ) (said : RunWords) (boot : ℕ) (before after : Outside) (status : ℕ)
+-- the terms of a run of which this was read, with this boot word
+abbrev terms_said : RunWords → ℕ → Terms
+terms_said said word = record { boot = word; dialect = said.dialect; refuses_origin = false }
+
+-- a run on the terms and at the pace that were read
+pub as_said : (words : List (List ℕ)) (handed : ℕ) (said : RunWords) (word : ℕ) (before after : Outside) (status : ℕ)
     → AreSaid words said
-    → boot ≡ unwrap_or said.boot handed → RunsOver boot said.pace before after status
-    → RunsOver (boot_with words handed) (pace_of words) before after status
-as_said words handed said boot before after status are is runs =
-    subst (λ word. RunsOver word (pace_of words) before after status) (is ∙ ap (λ word. unwrap_or word handed) are.boot)
-    (subst (λ pace. RunsOver boot pace before after status) are.pace runs)
+    → word ≡ unwrap_or said.boot handed
+    → RunsOver (terms_said said word) said.pace before after status
+    → RunsOver (terms_with words handed) (pace_of words) before after status
+as_said words handed said word before after status are is runs =
+    subst (λ terms. RunsOver terms (pace_of words) before after status) same
+    (subst (λ pace. RunsOver (terms_said said word) pace before after status) are.pace runs) where
+      same : terms_said said word ≡ terms_with words handed
+      same = λ i. record {
+        boot = (is ∙ ap (λ said. unwrap_or said handed) are.boot) i;
+        dialect = are.dialect i;
+        refuses_origin = false;
+      }
 
 -- a refused opening is a cause for no session
 has_cause : (why : OpenFault) (words : List (List ℕ)) (keeper keeper' : Store) → is_run words ≡ true
@@ -73,24 +88,24 @@ not_opened words source source' sink sink' keeper keeper' host host' told told' 
 pub runs_still : (words : List (List ℕ)) (handed : ℕ) (source source' : Inlet) (sink sink' : Outlet)
     (keeper keeper' : Store) (host host' : Hosted) (told run' : Readings) (moment status : ℕ)
     → is_run words ≡ true → now_of words ≡ Some moment
-    → RunsOver (boot_with words handed) (pace_of words) (outside source sink keeper host (standing_still moment))
+    → RunsOver (terms_with words handed) (pace_of words) (outside source sink keeper host (standing_still moment))
     (outside source' sink' keeper' host' run') status
     → Runs words handed (outside source sink keeper host told) (outside source' sink' keeper' host' told) status
 runs_still words handed source source' sink sink' keeper keeper' host host' told run' moment status read now
     (inl opened) = inl (record {
       read = read;
       opened =
-          subst (λ said. Opened (boot_with words handed) (pace_of words)
+          subst (λ said. Opened (terms_with words handed) (pace_of words)
           (outside source sink keeper host (clock_of said told))
           (outside source' sink' keeper' host' (clock_of said told)) status)
           (sym now)
-          (subst (λ run. Opened (boot_with words handed) (pace_of words)
+          (subst (λ run. Opened (terms_with words handed) (pace_of words)
           (outside source sink keeper host (standing_still moment))
           (outside source' sink' keeper' host' run) status) still opened);
       unread = subst (λ said. IsUnread said told told) (sym now) refl;
     }) where
       still : run' ≡ standing_still moment
-      still = session_still (boot_with words handed) (pace_of words) moment _ _ opened.ends refl opened.follows.session
+      still = session_still (terms_with words handed) (pace_of words) moment _ _ opened.ends refl opened.follows.session
 runs_still words handed source source' sink sink' keeper keeper' host host' told run' moment status read now (inr un) =
     inr (not_opened words source source' sink sink' keeper keeper' host host' told told
     (standing_still moment) run' status read refl un)
@@ -99,14 +114,14 @@ runs_still words handed source source' sink sink' keeper keeper' host host' told
 pub runs_by : (words : List (List ℕ)) (handed : ℕ) (source source' : Inlet) (sink sink' : Outlet)
     (keeper keeper' : Store) (host host' : Hosted) (told told' : Readings) (status : ℕ)
     → is_run words ≡ true → now_of words ≡ None
-    → RunsOver (boot_with words handed) (pace_of words) (outside source sink keeper host told)
+    → RunsOver (terms_with words handed) (pace_of words) (outside source sink keeper host told)
     (outside source' sink' keeper' host' told') status
     → Runs words handed (outside source sink keeper host told) (outside source' sink' keeper' host' told') status
 runs_by words handed source source' sink sink' keeper keeper' host host' told told' status read now (inl opened) = inl
     (record {
       read = read;
       opened =
-          subst (λ said. Opened (boot_with words handed) (pace_of words)
+          subst (λ said. Opened (terms_with words handed) (pace_of words)
           (outside source sink keeper host (clock_of said told))
           (outside source' sink' keeper' host' (clock_of said told')) status)
           (sym now) opened;
@@ -124,17 +139,17 @@ runs_by words handed source source' sink sink' keeper keeper' host host' told to
     })
 
 -- the rows that a keeper's entries open to, and a session from these on
-pub opened_run : (boot : ℕ) (pace : Pace) (before after : Outside) (keeper : Store) (s : Serial) (ends : SessionEnd) (status : ℕ)
+pub opened_run : (terms : Terms) (pace : Pace) (before after : Outside) (keeper : Store) (s : Serial) (ends : SessionEnd) (status : ℕ)
     → OpensTo s.state before.keeper keeper → s.hand ≡ None
-    → SessionFrom boot pace (session_world [] (record before { keeper = keeper }) s) after ends → status ≡ status_of ends
-    → Opened boot pace before after status
-opened_run boot pace before after keeper s ends status opens none follows is = record {
+    → SessionFrom terms pace (session_world [] (record before { keeper = keeper }) s) after ends → status ≡ status_of ends
+    → Opened terms pace before after status
+opened_run terms pace before after keeper s ends status opens none follows is = record {
   entries = opens.entries;
   contents = opens.contents;
   state = s.state;
   opens = opens.opens;
   ends = ends;
-  follows = subst (λ w. SessionFrom boot pace w after ends) same follows;
+  follows = subst (λ w. SessionFrom terms pace w after ends) same follows;
   status_is = is;
 } where
   same : session_world [] (record before { keeper = keeper }) s ≡ begun opens.entries s.state before

@@ -9,6 +9,7 @@ use Rattle.http_front.specs.Clocks.{Readings}
 use Rattle.record_keeper.specs.Store.{Store}
 use Rattle.serial_steps.specs.Steps.{Hosted, Serial, SerialWorld, serial, serial_world}
 use Rattle.row_machine.specs.machine.State.{State}
+use Rattle.rest_json.specs.declared.terms.Terms.{Terms}
 use Rattle.start_faults.specs.core_rows.specs.Opening.{OpensTo}
 use Rattle.start_faults.specs.core_rows.specs.declared.opening.OpenFault.{OpenFault}
 use Rattle.start_faults.specs.core_rows.specs.declared.opening.OpenFault.TheVariants as fault
@@ -48,21 +49,21 @@ all_there_are known replies bytes empty appends =
     subst (λ k. Appends k (Some replies) (bytes ++ [])) empty appends ∙ append-nil bytes
 
 -- a drill that answered all of its requests, from an opened state on
-answered_drill : (boot : ℕ) (stream : List ℕ) (messages : List Request) (status : ℕ) (store opened : Store) (s : State)
+answered_drill : (terms : Terms) (stream : List ℕ) (messages : List Request) (status : ℕ) (store opened : Store) (s : State)
     (host : Hosted) (clock : Readings) (sink : Outlet) (store' : Store) (host' : Hosted) (clock' : Readings) (sink' : Outlet)
     (last : Serial) (replies : List ℕ)
     → OpensTo s store opened
-    → Answers boot stream (serial_world (serial s None) opened host clock) (serial_world last store' host' clock') replies end.Ended
+    → Answers terms stream (serial_world (serial s None) opened host clock) (serial_world last store' host' clock') replies end.Ended
     → Tells status (drilled_text replies last.state) sink sink' → Splits stream messages ended
-    → DrillsText boot messages status store host clock sink store' host' clock' sink'
-answered_drill boot stream messages status store opened s host clock sink store' host' clock' sink' last replies opens a tells splits = record {
+    → DrillsText terms messages status store host clock sink store' host' clock' sink'
+answered_drill terms stream messages status store opened s host clock sink store' host' clock' sink' last replies opens a tells splits = record {
   state = s;
   opened = opened;
   opens = opens;
   exchanges = a.session.exchanges;
   last = last;
   requests_are = due.requests_are;
-  leads = subst (LeadTo boot pace.All (serial_world (serial s None) opened host clock) a.session.exchanges) (sym quiet.serial_world) all.leads;
+  leads = subst (LeadTo terms pace.All (serial_world (serial s None) opened host clock) a.session.exchanges) (sym quiet.serial_world) all.leads;
   moments = along.clock;
   early = along.early;
   written = subst (λ text. Tells status (drilled_text text last.state) sink sink') replies_are tells;
@@ -77,38 +78,38 @@ answered_drill boot stream messages status store opened s host clock sink store'
   after : SessionWorld
   after = record { held = a.held; source = a.source'; sink = record { held = Some replies; failures = a.failures' }; serial_world = serial_world last store' host' clock' }
 
-  all : Together boot pace.All before a.session.exchanges a.session.reached
-  all = together boot pace.All before a.session.reached a.session.exchanges a.session.serves
+  all : Together terms pace.All before a.session.exchanges a.session.reached
+  all = together terms pace.All before a.session.reached a.session.exchanges a.session.serves
 
   due : IsDue messages ended end.Ended a.session.exchanges
-  due = session_due boot pace.All before after end.Ended stream messages ended a.session (ap (prepend_known []) a.known) splits tt
+  due = session_due terms pace.All before after end.Ended stream messages ended a.session (ap (prepend_known []) a.known) splits tt
 
   quiet : StopsQuietly end.Ended a.session.reached after
-  quiet = session_quietly boot pace.All before after end.Ended a.session tt
+  quiet = session_quietly terms pace.All before after end.Ended a.session tt
 
   along : IsAlong before.serial_world (moments_of a.session.exchanges) (keeper_failures_of a.session.exchanges)
       (host_failures_of a.session.exchanges) after.serial_world
   along = subst (IsAlong before.serial_world (moments_of a.session.exchanges) (keeper_failures_of a.session.exchanges)
       (host_failures_of a.session.exchanges)) (sym quiet.serial_world) all.along
 
-  replies_are : replies ≡ printed_replies boot a.session.exchanges
-  replies_are = all_there_are a.sink.held replies (printed_replies boot a.session.exchanges) a.empty
-      (appends_twice a.sink.held a.session.reached.sink.held (Some replies) (printed_replies boot a.session.exchanges) [] all.written quiet.written)
+  replies_are : replies ≡ printed_replies terms a.session.exchanges
+  replies_are = all_there_are a.sink.held replies (printed_replies terms a.session.exchanges) a.empty
+      (appends_twice a.sink.held a.session.reached.sink.held (Some replies) (printed_replies terms a.session.exchanges) [] all.written quiet.written)
 
 -- where something was written, all requests were answered
-pub drill_text : (boot : ℕ) (stream : List ℕ) (status : ℕ) (store : Store) (host : Hosted) (clock : Readings) (sink : Outlet)
+pub drill_text : (terms : Terms) (stream : List ℕ) (status : ℕ) (store : Store) (host : Hosted) (clock : Readings) (sink : Outlet)
     (store' : Store) (host' : Hosted) (clock' : Readings) (sink' : Outlet)
-    → Drills boot stream status store host clock sink store' host' clock' sink'
+    → Drills terms stream status store host clock sink store' host' clock' sink'
     → (messages : List Request) → Splits stream messages ended → (status ≡ 0) ⊎ (status ≡ 5)
-    → DrillsText boot messages status store host clock sink store' host' clock' sink'
-drill_text boot stream status store host clock sink store' host' clock' sink' (inr d) messages splits some =
+    → DrillsText terms messages status store host clock sink store' host' clock' sink'
+drill_text terms stream status store host clock sink store' host' clock' sink' (inr d) messages splits some =
     opened status sink sink' store store' host host' clock clock' d some
-drill_text boot stream status store host clock sink store' host' clock' sink' (inl o) messages splits some = over o.over where
-  by : (d : Drilled boot stream status (serial_world (serial o.state None) o.opened host clock) sink store' host' clock' sink') (ends : SessionEnd)
-      → Answers boot stream (serial_world (serial o.state None) o.opened host clock) (serial_world d.last store' host' clock') d.replies ends
+drill_text terms stream status store host clock sink store' host' clock' sink' (inl o) messages splits some = over o.over where
+  by : (d : Drilled terms stream status (serial_world (serial o.state None) o.opened host clock) sink store' host' clock' sink') (ends : SessionEnd)
+      → Answers terms stream (serial_world (serial o.state None) o.opened host clock) (serial_world d.last store' host' clock') d.replies ends
       → TellsDrill ends status (drilled_text d.replies d.last.state) sink sink'
-      → DrillsText boot messages status store host clock sink store' host' clock' sink'
-  by d end.Ended answers tells = answered_drill boot stream messages status store o.opened o.state host clock sink store' host' clock' sink'
+      → DrillsText terms messages status store host clock sink store' host' clock' sink'
+  by d end.Ended answers tells = answered_drill terms stream messages status store o.opened o.state host clock sink store' host' clock' sink'
       d.last d.replies o.opens answers tells splits
   by d end.Cut answers tells = wrote status 9 tells.0 (omega arith) some
   by d (end.Malformed fault) answers tells = wrote status 9 tells.0 (omega arith) some
@@ -117,7 +118,7 @@ drill_text boot stream status store host clock sink store' host' clock' sink' (i
   by d end.NoMemory answers tells = wrote status 9 tells.0 (omega arith) some
   by d end.Spent answers tells = wrote status 9 tells.0 (omega arith) some
 
-  over : DrillsOver boot stream status (serial_world (serial o.state None) o.opened host clock) sink store' host' clock' sink'
-      → DrillsText boot messages status store host clock sink store' host' clock' sink'
+  over : DrillsOver terms stream status (serial_world (serial o.state None) o.opened host clock) sink store' host' clock' sink'
+      → DrillsText terms messages status store host clock sink store' host' clock' sink'
   over (inl d) = by d d.ends d.answers d.tells
   over (inr out) = wrote status 9 out.status_is (omega arith) some

@@ -5,7 +5,6 @@ use Rattle.size_values.specs.declared.entry.Entry.{Entry}
 use Rattle.record_keeper.specs.Entries.{after_changes}
 use Rattle.record_keeper.specs.Store.{Store, IsAfterUpTo}
 use Rattle.records.specs.declared.commands.Command.{Command}
-use Rattle.records.specs.declared.refusals.Refusal.{Refusal}
 use Rattle.records.specs.declared.replies.Reply.{Reply}
 use Rattle.row_machine.specs.declared.changes.RowChange.{RowChange}
 use Rattle.row_machine.specs.declared.events.Answer.{Answer}
@@ -16,6 +15,7 @@ use Rattle.row_machine.specs.machine.Accept.{After, and_then}
 use Rattle.row_machine.specs.machine.State.{State}
 use Rattle.row_machine.specs.machine.Step.{Outcome, well, keeper_failed, no_memory}
 use Rattle.row_machine.specs.opening.Records.{records_of}
+use Rattle.rest_json.specs.declared.terms.Terms.{Terms}
 use Rattle.machine_laws.specs.Entries.{entry_changes}
 use Rattle.start_faults.specs.core_reports.specs.Stores.{KeepsRecords, Stores}
 use Rattle.serial_steps.specs.core_turns.specs.Turns.{Turns, changes_by}
@@ -118,7 +118,7 @@ one {w} {w'} {e} {o} {a} moment at turn kept told = record {
 -- ---- what was asked for
 
 -- a request without a command changes nothing
-unasked_stays : (w w' : SerialWorld) (asked : Result Command Refusal) (o : Outcome) (a : Answer)
+unasked_stays : (w w' : SerialWorld) (asked : Result Command Reply) (o : Outcome) (a : Answer)
     → Carries w asked None o a w' → IsKept w → Through w [] w'
 unasked_stays w w' asked o a h told = record {
   keeps = (by asked o h.is, same_store o h.stored);
@@ -132,23 +132,23 @@ unasked_stays w w' asked o a h told = record {
   same_store (keeper_failed rise) stored = absurd stored
   same_store no_memory stored = stored
 
-  by : (asked : Result Command Refusal) (o : Outcome)
+  by : (asked : Result Command Reply) (o : Outcome)
       → carried_out w.serial.state None o asked ≡ Some (and_then a w'.serial.state) → w'.serial.state ≡ w.serial.state
   by (Ok c) well is = cc
   by (Ok c) (keeper_failed rise) is = cc
   by (Ok c) no_memory is = state_is is
-  by (Err refusal) well is = state_is is
-  by (Err refusal) (keeper_failed rise) is = cc
-  by (Err refusal) no_memory is = state_is is
+  by (Err said) well is = state_is is
+  by (Err said) (keeper_failed rise) is = cc
+  by (Err said) no_memory is = state_is is
 
-carries_keeps : (w w' : SerialWorld) (asked : Result Command Refusal) (moment : Option ℕ) (o : Outcome) (a : Answer)
+carries_keeps : (w w' : SerialWorld) (asked : Result Command Reply) (moment : Option ℕ) (o : Outcome) (a : Answer)
     → Carries w asked moment o a w' → IsKept w → Through w (asked_at moment o) w'
 carries_keeps w w' asked None o a h told = unasked_stays w w' asked o a h told
 carries_keeps w w' (Ok c) (Some moment) o a h told =
     let turn : Turns w.serial.state w.store (event.Ask c moment) o a w'.serial.state w'.store =
     record { is = h.is; stored = h.stored } in
     one moment refl turn h.kept told
-carries_keeps w w' (Err refusal) (Some moment) o a h told = let no : ⊥ = never h.is in absurd no where
+carries_keeps w w' (Err said) (Some moment) o a h told = let no : ⊥ = never h.is in absurd no where
   never : {x : After} → None ≡ Some x → ⊥
   never e = cc
 
@@ -171,7 +171,7 @@ paced_keeps pace.All w w' steps h told = steps_keep w w' steps (anyhow _ w w' st
 
 -- ---- exchanges
 
-held_keeps : (w w' : SerialWorld) (asked : Result Command Refusal) (moment : Option ℕ) (o : Outcome) (held : Held)
+held_keeps : (w w' : SerialWorld) (asked : Result Command Reply) (moment : Option ℕ) (o : Outcome) (held : Held)
     (r : Reply) → HeldBack w asked moment o held r w' → IsKept w
     → Through w (asked_at moment o ++ held_at (Some held)) w'
 held_keeps w w' asked moment o held r h told =
@@ -181,7 +181,7 @@ held_keeps w w' asked moment o held r h told =
     steps_keep h.waiting h.ended held.steps (anyhow _ h.waiting h.ended held.steps h.waits.made) asks.told in
     twice asks (twice waits (carries_keeps h.ended w' _ (Some held.moment) held.outcome _ h.shows waits.told))
 
-answered_keeps : (w w' : SerialWorld) (asked : Result Command Refusal) (moment : Option ℕ) (o : Outcome)
+answered_keeps : (w w' : SerialWorld) (asked : Result Command Reply) (moment : Option ℕ) (o : Outcome)
     (held : Option Held) (r : Reply) → IsAnswered w asked moment o held r w' → IsKept w
     → Through w (asked_at moment o ++ held_at held) w'
 answered_keeps w w' asked moment o None r h told =
@@ -189,29 +189,29 @@ answered_keeps w w' asked moment o None r h told =
     twice asks (none w' asks.told)
 answered_keeps w w' asked moment o (Some held) r h told = held_keeps w w' asked moment o held r h told
 
-comes_keeps : (boot : ℕ) (w : SerialWorld) (e : Exchange) (w' : SerialWorld) → Comes boot w e w' → IsKept w
+comes_keeps : (terms : Terms) (w : SerialWorld) (e : Exchange) (w' : SerialWorld) → Comes terms w e w' → IsKept w
     → Through w (asked_at e.moment e.outcome ++ held_at e.held) w'
-comes_keeps boot w e w' h told =
-    answered_keeps w w' (command_of e.request boot) e.moment e.outcome e.held e.reply h told
+comes_keeps terms w e w' h told =
+    answered_keeps w w' (command_of e.request terms) e.moment e.outcome e.held e.reply h told
 
-leads_keeps : (boot : ℕ) (p : Pace) (w : SerialWorld) (e : Exchange) (w' : SerialWorld) → Leads boot p w e w' → IsKept w
+leads_keeps : (terms : Terms) (p : Pace) (w : SerialWorld) (e : Exchange) (w' : SerialWorld) → Leads terms p w e w' → IsKept w
     → Through w (events_at e) w'
-leads_keeps boot p w e w' h told =
+leads_keeps terms p w e w' h told =
     let came : Through w (asked_at e.moment e.outcome ++ held_at e.held) h.replied =
-    comes_keeps boot w e h.replied h.comes told in
+    comes_keeps terms w e h.replied h.comes told in
     twice came (paced_keeps p h.replied w' e.steps h.paced came.told)
 
-all_keep : (boot : ℕ) (p : Pace) (w : SerialWorld) (es : List Exchange) (w' : SerialWorld) → LeadTo boot p w es w'
+all_keep : (terms : Terms) (p : Pace) (w : SerialWorld) (es : List Exchange) (w' : SerialWorld) → LeadTo terms p w es w'
     → IsKept w → Through w (events_of es) w'
-all_keep boot p w [] w' same told = subst (Through w []) same (none w told)
-all_keep boot p w (e ∷ es) w' h told =
-    let first : Through w (events_at e) h.0 = leads_keeps boot p w e h.0 h.1 told in
-    twice first (all_keep boot p h.0 es w' h.2 first.told)
+all_keep terms p w [] w' same told = subst (Through w []) same (none w told)
+all_keep terms p w (e ∷ es) w' h told =
+    let first : Through w (events_at e) h.0 = leads_keeps terms p w e h.0 h.1 told in
+    twice first (all_keep terms p h.0 es w' h.2 first.told)
 
 -- ---- the laws
 
 pub after_each : AfterEachCall
-after_each boot follows w es w' leads told = (all_keep boot follows w es w' leads told).keeps
+after_each terms follows w es w' leads told = (all_keep terms follows w es w' leads told).keeps
 
 pub after_each_of_one : AfterEachCallOfOne
-after_each_of_one boot w e w' comes told = (comes_keeps boot w e w' comes told).keeps
+after_each_of_one terms w e w' comes told = (comes_keeps terms w e w' comes told).keeps

@@ -10,6 +10,7 @@ use Rattle.http_heads.specs.declared.request.Request.{Request}
 use Rattle.record_keeper.specs.Store.{Store, after_calls}
 use Rattle.row_machine.specs.machine.State.{State}
 use Rattle.row_machine.specs.opening.Opening.{Opening, opened, opening_of, damaged, broken}
+use Rattle.rest_json.specs.declared.terms.Terms.{Terms}
 use Rattle.start_faults.specs.core_rows.specs.Opening.{OpensToNone, Refuses, is_refused}
 use Rattle.start_faults.specs.core_rows.specs.declared.opening.OpenFault.{OpenFault}
 use Rattle.start_faults.specs.core_rows.specs.declared.opening.OpenFault.TheVariants as fault
@@ -24,7 +25,7 @@ use Rattle.serial_run.specs.Worlds.{Outlet, Outside}
 use Rattle.serial_run.specs.declared.session.SessionEnd.{SessionEnd}
 use Rattle.serial_run.specs.declared.session.SessionEnd.TheVariants as end
 use Rattle.serial_run.specs.Does.{Carried, Does, DoesOther, IsReadyFor, OpensToRows}
-use Rattle.serial_run.specs.Runs.{HasCauseToRefuse, Runs, boot_with, seen_with}
+use Rattle.serial_run.specs.Runs.{HasCauseToRefuse, Runs, terms_with, seen_with}
 use Rattle.serial_run.specs.Texts.{RunsText, is_fault}
 use Rattle.start_faults.specs.Starts.{start_status}
 use Rattle.start_faults.specs.declared.fault.StartFault.{StartFault}
@@ -96,18 +97,18 @@ by_drill end.WriteFault status text before after tells = out_of_memory tells.0
 by_drill end.NoMemory status text before after tells = out_of_memory tells.0
 by_drill end.Spent status text before after tells = out_of_memory tells.0
 
-drilled_cause : (boot : ℕ) (stream : List ℕ) (status : ℕ) (w : SerialWorld) (before after : Outside)
-    → DrillsOver boot stream status w before.sink after.keeper after.host after.clock after.sink → Cause status before after
-drilled_cause boot stream status w before after (inl d) =
+drilled_cause : (terms : Terms) (stream : List ℕ) (status : ℕ) (w : SerialWorld) (before after : Outside)
+    → DrillsOver terms stream status w before.sink after.keeper after.host after.clock after.sink → Cause status before after
+drilled_cause terms stream status w before after (inl d) =
     by_drill d.ends status (drilled_text d.replies d.last.state) before after d.tells
-drilled_cause boot stream status w before after (inr out) = out_of_memory out.status_is
+drilled_cause terms stream status w before after (inr out) = out_of_memory out.status_is
 
-drills_cause : (boot : ℕ) (stream : List ℕ) (status : ℕ) (before after : Outside)
-    → Drills boot stream status before.keeper before.host before.clock before.sink after.keeper after.host after.clock after.sink
+drills_cause : (terms : Terms) (stream : List ℕ) (status : ℕ) (before after : Outside)
+    → Drills terms stream status before.keeper before.host before.clock before.sink after.keeper after.host after.clock after.sink
     → Cause status before after
-drills_cause boot stream status before after (inl o) =
-    drilled_cause boot stream status (serial_world (serial o.state None) o.opened before.host before.clock) before after o.over
-drills_cause boot stream status before after (inr u) = by_opening status before after u.unopened
+drills_cause terms stream status before after (inl o) =
+    drilled_cause terms stream status (serial_world (serial o.state None) o.opened before.host before.clock) before after o.over
+drills_cause terms stream status before after (inr u) = by_opening status before after u.unopened
 
 cause_of : (command : CommandWords) (handed : ℕ) (before after : Outside) (status : ℕ)
     → DoesOther command handed before after status → Cause status before after
@@ -137,7 +138,7 @@ pub does_text : (words : List (List ℕ)) (handed : ℕ) (before after : Outside
     → Does words handed before after status → before.source.left ≡ known
     → IfSome known (λ text. (messages : List Request) (ending : Ending) → Splits text messages ending → is_run words ≡ true
     → (is_fault status ≡ true)
-    ⊎ RunsText (boot_with words handed) (pace_of words) messages ending status (seen_with words before) (seen_with words after))
+    ⊎ RunsText (terms_with words handed) (pace_of words) messages ending status (seen_with words before) (seen_with words after))
 does_text words handed before after status None ran is = tt
 does_text words handed before after status (Some text) (inl runs) is =
     λ messages ending splits run. top_text words handed before after status (Some text) runs is messages ending splits

@@ -1,6 +1,7 @@
 -- What a session did that stopped without a fault: after the replies it wrote what its end asks for, and nothing else.
 use Rattle.std.proofs.Common.{◌≡◌, ◌⊎◌, ℕ, List, [], refl, sym, subst, inl, inr}
 use Rattle.std.specs.Io.KnownBytes.{Appends}
+use Rattle.rest_json.specs.declared.terms.Terms.{Terms}
 use Rattle.command_words.specs.declared.run_words.Pace.{Pace}
 use Rattle.serial_run.specs.declared.session.SessionEnd.{SessionEnd}
 use Rattle.serial_run.specs.declared.session.SessionEnd.TheVariants as end
@@ -26,15 +27,15 @@ same_quietly ends w w' same none = subst (λ v. StopsQuietly ends w v) (sym same
 })
 
 -- where it stops after requests that go on
-stops_quietly : (boot : ℕ) (ends : SessionEnd) (w w' : SessionWorld) → Stops boot ends w w' → IsSettled ends
+stops_quietly : (terms : Terms) (ends : SessionEnd) (w w' : SessionWorld) → Stops terms ends w w' → IsSettled ends
     → StopsQuietly ends w w'
-stops_quietly boot end.Ended w w' stops settled = record { written = nothing_written w w' stops.2; serial_world = stops.1 }
-stops_quietly boot end.Cut w w' stops settled = record { written = nothing_written w w' stops.3; serial_world = stops.2 }
-stops_quietly boot (end.Malformed fault) w w' stops settled = record { written = stops.2.written; serial_world = stops.1 }
-stops_quietly boot end.Spent w w' stops settled = same_quietly end.Spent w w' stops refl
-stops_quietly boot end.ReadFault w w' stops settled = absurd settled
-stops_quietly boot end.WriteFault w w' stops settled = absurd settled
-stops_quietly boot end.NoMemory w w' stops settled = absurd settled
+stops_quietly terms end.Ended w w' stops settled = record { written = nothing_written w w' stops.2; serial_world = stops.1 }
+stops_quietly terms end.Cut w w' stops settled = record { written = nothing_written w w' stops.3; serial_world = stops.2 }
+stops_quietly terms (end.Malformed fault) w w' stops settled = record { written = stops.2.written; serial_world = stops.1 }
+stops_quietly terms end.Spent w w' stops settled = same_quietly end.Spent w w' stops refl
+stops_quietly terms end.ReadFault w w' stops settled = absurd settled
+stops_quietly terms end.WriteFault w w' stops settled = absurd settled
+stops_quietly terms end.NoMemory w w' stops settled = absurd settled
 
 -- where it stops after a final request
 after_final : (ends : SessionEnd) (w w' : SessionWorld) → StopsAfterFinal ends → w' ≡ w → StopsQuietly ends w w'
@@ -47,10 +48,10 @@ after_final end.WriteFault w w' is same = absurd is
 after_final end.NoMemory w w' is same = absurd is
 
 -- where it stops in either way
-pub session_quietly : (boot : ℕ) (pace : Pace) (w w' : SessionWorld) (ends : SessionEnd) (s : Session boot pace w w' ends)
+pub session_quietly : (terms : Terms) (pace : Pace) (w w' : SessionWorld) (ends : SessionEnd) (s : Session terms pace w w' ends)
     → IsSettled ends → StopsQuietly ends s.reached w'
-session_quietly boot pace w w' ends s settled = by s.stops where
-  by : (AllGoOn s.exchanges × Stops boot ends s.reached w')
+session_quietly terms pace w w' ends s settled = by s.stops where
+  by : (AllGoOn s.exchanges × Stops terms ends s.reached w')
       ⊎ (OnlyFinalEnds s.exchanges × StopsAfterFinal ends × (w' ≡ s.reached)) → StopsQuietly ends s.reached w'
-  by (inl (going, stops)) = stops_quietly boot ends s.reached w' stops settled
+  by (inl (going, stops)) = stops_quietly terms ends s.reached w' stops settled
   by (inr (only, is, same)) = after_final ends s.reached w' is same

@@ -14,6 +14,7 @@ use Rattle.row_machine.specs.opening.Opening.{Opening, opened, opening_of}
 use Rattle.start_faults.specs.core_rows.specs.Opening.{OpensToNone, Refuses, is_refused}
 use Rattle.start_faults.specs.core_rows.specs.declared.opening.OpenFault.TheVariants as fault
 use Rattle.record_keeper.specs.Store.{Store, after_calls}
+use Rattle.rest_json.specs.declared.terms.Terms.{Terms}
 use Rattle.serial_steps.specs.Steps.{Serial}
 use Rattle.command_words.specs.RunWords.{as_run, is_run, now_of, pace_of, words_of}
 use Rattle.command_words.specs.declared.run_words.Pace.{Pace}
@@ -26,7 +27,7 @@ use Rattle.serial_run.specs.declared.session.SessionEnd.TheVariants as end
 use Rattle.serial_run.specs.Most.{most_requests}
 use Rattle.serial_run.specs.Inputs.{status_of}
 use Rattle.start_faults.specs.Starts.{start_status}
-use Rattle.serial_run.specs.Runs.{begun, boot_with, seen_with, IsUnread, Ran, Runs}
+use Rattle.serial_run.specs.Runs.{begun, terms_with, seen_with, IsUnread, Ran, Runs}
 use Rattle.serial_run.specs.Runs.{HasCauseToRefuse, Opened}
 use Rattle.serial_run.specs.Sessions.{Session, Stops, StopsAfterFinal, AllGoOn, OnlyFinalEnds}
 use Rattle.serial_run.specs.Inputs.{answered, end_due}
@@ -41,12 +42,12 @@ use Rattle.serial_run.proofs.Whole.{IsSettled, IsDue, session_due, text_at, not_
 -- ---- what a settled session did
 
 -- a settled session over a known text, from the first rows and their records on, does what the text asks
-session_text : (boot : ℕ) (pace : Pace) (before after : Outside) (status : ℕ) (r : Opened boot pace before after status)
+session_text : (terms : Terms) (pace : Pace) (before after : Outside) (status : ℕ) (r : Opened terms pace before after status)
     (ends : SessionEnd) (text : List ℕ) (messages : List Request) (ending : Ending)
-    → Session boot pace (begun r.entries r.state before) (session_world r.follows.held after r.follows.serial) ends
+    → Session terms pace (begun r.entries r.state before) (session_world r.follows.held after r.follows.serial) ends
     → before.source.left ≡ Some text → Splits text messages ending → IsSettled ends
-    → RunsText boot pace messages ending (status_of ends) before after
-session_text boot pace before after status r ends text messages ending s known splits settled = record {
+    → RunsText terms pace messages ending (status_of ends) before after
+session_text terms pace before after status r ends text messages ending s known splits settled = record {
   entries = r.entries;
   contents = r.contents;
   state = r.state;
@@ -54,27 +55,27 @@ session_text boot pace before after status r ends text messages ending s known s
   exchanges = s.exchanges;
   last = r.follows.serial;
   requests_are = due.requests_are;
-  leads = subst (LeadTo boot pace (begun r.entries r.state before).serial_world s.exchanges) (sym quiet.serial_world) all.leads;
+  leads = subst (LeadTo terms pace (begun r.entries r.state before).serial_world s.exchanges) (sym quiet.serial_world) all.leads;
   moments = along.clock;
   early = along.early;
   status_is = sym (ap (λ e. e.status) due.end_is);
-  written = subst (λ t. Appends before.sink.held after.sink.held (printed_replies boot s.exchanges ++ t))
+  written = subst (λ t. Appends before.sink.held after.sink.held (printed_replies terms s.exchanges ++ t))
       (sym (ap (λ e. e.text) due.end_is))
-      (appends_twice before.sink.held s.reached.sink.held after.sink.held (printed_replies boot s.exchanges)
+      (appends_twice before.sink.held s.reached.sink.held after.sink.held (printed_replies terms s.exchanges)
       (text_at ends) all.written quiet.written);
   kept = along.kept before.keeper.contents refl;
   keeper_failed = along.keeper_failed;
   host_failed = along.host_failed;
 } where
-  all : Together boot pace (begun r.entries r.state before) s.exchanges s.reached
-  all = together boot pace (begun r.entries r.state before) s.reached s.exchanges s.serves
+  all : Together terms pace (begun r.entries r.state before) s.exchanges s.reached
+  all = together terms pace (begun r.entries r.state before) s.reached s.exchanges s.serves
 
   due : IsDue messages ending ends s.exchanges
-  due = session_due boot pace (begun r.entries r.state before) (session_world r.follows.held after r.follows.serial) ends text messages ending s
+  due = session_due terms pace (begun r.entries r.state before) (session_world r.follows.held after r.follows.serial) ends text messages ending s
       (ap (prepend_known []) known) splits settled
 
   quiet : StopsQuietly ends s.reached (session_world r.follows.held after r.follows.serial)
-  quiet = session_quietly boot pace (begun r.entries r.state before) (session_world r.follows.held after r.follows.serial) ends s settled
+  quiet = session_quietly terms pace (begun r.entries r.state before) (session_world r.follows.held after r.follows.serial) ends s settled
 
   along : IsAlong (begun r.entries r.state before).serial_world (moments_of s.exchanges) (keeper_failures_of s.exchanges)
       (host_failures_of s.exchanges) (within after r.follows.serial)
@@ -97,16 +98,16 @@ Tells end.NoMemory w w' = Unit {0}
 rose_from : (a b c : ℕ) → a ≤ b → Rose b c → Rose a c
 rose_from a b c later rose = omega (arith, later, rose)
 
-stop_tells : (boot : ℕ) (ends : SessionEnd) (w v w' : SessionWorld) → w.source.failures ≤ v.source.failures
-    → w.sink.failures ≤ v.sink.failures → Stops boot ends v w' → Tells ends w w'
-stop_tells boot end.Ended w v w' reads writes stops = tt
-stop_tells boot end.Cut w v w' reads writes stops = stops.1.ended
-stop_tells boot (end.Malformed fault) w v w' reads writes stops = tt
-stop_tells boot end.ReadFault w v w' reads writes stops = rose_from _ _ _ reads stops.0.fault
-stop_tells boot end.WriteFault w v w' reads writes (inl stops) = rose_from _ _ _ writes stops.2.rose
-stop_tells boot end.WriteFault w v w' reads writes (inr stops) = rose_from _ _ _ writes stops.3.rose
-stop_tells boot end.Spent w v w' reads writes stops = tt
-stop_tells boot end.NoMemory w v w' reads writes stops = tt
+stop_tells : (terms : Terms) (ends : SessionEnd) (w v w' : SessionWorld) → w.source.failures ≤ v.source.failures
+    → w.sink.failures ≤ v.sink.failures → Stops terms ends v w' → Tells ends w w'
+stop_tells terms end.Ended w v w' reads writes stops = tt
+stop_tells terms end.Cut w v w' reads writes stops = stops.1.ended
+stop_tells terms (end.Malformed fault) w v w' reads writes stops = tt
+stop_tells terms end.ReadFault w v w' reads writes stops = rose_from _ _ _ reads stops.0.fault
+stop_tells terms end.WriteFault w v w' reads writes (inl stops) = rose_from _ _ _ writes stops.2.rose
+stop_tells terms end.WriteFault w v w' reads writes (inr stops) = rose_from _ _ _ writes stops.3.rose
+stop_tells terms end.Spent w v w' reads writes stops = tt
+stop_tells terms end.NoMemory w v w' reads writes stops = tt
 
 final_tells : (ends : SessionEnd) (w w' : SessionWorld) → StopsAfterFinal ends → Tells ends w w'
 final_tells end.Ended w w' is = tt
@@ -117,15 +118,15 @@ final_tells end.ReadFault w w' is = absurd is
 final_tells end.WriteFault w w' is = absurd is
 final_tells end.NoMemory w w' is = absurd is
 
-session_tells : (boot : ℕ) (pace : Pace) (w w' : SessionWorld) (ends : SessionEnd) → Session boot pace w w' ends
+session_tells : (terms : Terms) (pace : Pace) (w w' : SessionWorld) (ends : SessionEnd) → Session terms pace w w' ends
     → Tells ends w w'
-session_tells boot pace w w' ends s = by s.stops where
-  all : Together boot pace w s.exchanges s.reached
-  all = together boot pace w s.reached s.exchanges s.serves
+session_tells terms pace w w' ends s = by s.stops where
+  all : Together terms pace w s.exchanges s.reached
+  all = together terms pace w s.reached s.exchanges s.serves
 
-  by : (AllGoOn s.exchanges × Stops boot ends s.reached w')
+  by : (AllGoOn s.exchanges × Stops terms ends s.reached w')
       ⊎ (OnlyFinalEnds s.exchanges × StopsAfterFinal ends × (w' ≡ s.reached)) → Tells ends w w'
-  by (inl (going, stops)) = stop_tells boot ends w s.reached w' all.reads all.writes stops
+  by (inl (going, stops)) = stop_tells terms ends w s.reached w' all.reads all.writes stops
   by (inr (only, is, same)) = final_tells ends w w' is
 
 -- none of these statuses is that of a run without a session
@@ -140,7 +141,7 @@ pub top_cut : (words : List (List ℕ)) (handed : ℕ) (before after : Outside) 
     → Runs words handed before after status → status ≡ 2 → after.source.ended ≡ true
 top_cut words handed before after status (inr refused) two =
     no_start refused.why 2 (sym refused.status_is ∙ two) (omega arith)
-top_cut words handed before after status (inl ran) two = by ran.opened.ends (session_tells (boot_with words handed) (pace_of words) (begun ran.opened.entries ran.opened.state (seen_with words before)) (session_world ran.opened.follows.held (seen_with words after) ran.opened.follows.serial) ran.opened.ends ran.opened.follows.session) (sym ran.opened.status_is ∙ two) where
+top_cut words handed before after status (inl ran) two = by ran.opened.ends (session_tells (terms_with words handed) (pace_of words) (begun ran.opened.entries ran.opened.state (seen_with words before)) (session_world ran.opened.follows.held (seen_with words after) ran.opened.follows.serial) ran.opened.ends ran.opened.follows.session) (sym ran.opened.status_is ∙ two) where
   by : (ends : SessionEnd)
       → Tells ends (begun ran.opened.entries ran.opened.state (seen_with words before))
       (session_world ran.opened.follows.held (seen_with words after) ran.opened.follows.serial) → status_of ends ≡ 2
@@ -158,7 +159,7 @@ pub top_read_fault : (words : List (List ℕ)) (handed : ℕ) (before after : Ou
     → Runs words handed before after status → status ≡ 4 → Rose before.source.failures after.source.failures
 top_read_fault words handed before after status (inr refused) four =
     no_start refused.why 4 (sym refused.status_is ∙ four) (omega arith)
-top_read_fault words handed before after status (inl ran) four = by ran.opened.ends (session_tells (boot_with words handed) (pace_of words) (begun ran.opened.entries ran.opened.state (seen_with words before)) (session_world ran.opened.follows.held (seen_with words after) ran.opened.follows.serial) ran.opened.ends ran.opened.follows.session) (sym ran.opened.status_is ∙ four) where
+top_read_fault words handed before after status (inl ran) four = by ran.opened.ends (session_tells (terms_with words handed) (pace_of words) (begun ran.opened.entries ran.opened.state (seen_with words before)) (session_world ran.opened.follows.held (seen_with words after) ran.opened.follows.serial) ran.opened.ends ran.opened.follows.session) (sym ran.opened.status_is ∙ four) where
   by : (ends : SessionEnd)
       → Tells ends (begun ran.opened.entries ran.opened.state (seen_with words before))
       (session_world ran.opened.follows.held (seen_with words after) ran.opened.follows.serial) → status_of ends ≡ 4
@@ -176,7 +177,7 @@ pub top_write_fault : (words : List (List ℕ)) (handed : ℕ) (before after : O
     → Runs words handed before after status → status ≡ 5 → Rose before.sink.failures after.sink.failures
 top_write_fault words handed before after status (inr refused) five =
     no_start refused.why 5 (sym refused.status_is ∙ five) (omega arith)
-top_write_fault words handed before after status (inl ran) five = by ran.opened.ends (session_tells (boot_with words handed) (pace_of words) (begun ran.opened.entries ran.opened.state (seen_with words before)) (session_world ran.opened.follows.held (seen_with words after) ran.opened.follows.serial) ran.opened.ends ran.opened.follows.session) (sym ran.opened.status_is ∙ five) where
+top_write_fault words handed before after status (inl ran) five = by ran.opened.ends (session_tells (terms_with words handed) (pace_of words) (begun ran.opened.entries ran.opened.state (seen_with words before)) (session_world ran.opened.follows.held (seen_with words after) ran.opened.follows.serial) ran.opened.ends ran.opened.follows.session) (sym ran.opened.status_is ∙ five) where
   by : (ends : SessionEnd)
       → Tells ends (begun ran.opened.entries ran.opened.state (seen_with words before))
       (session_world ran.opened.follows.held (seen_with words after) ran.opened.follows.serial) → status_of ends ≡ 5
@@ -320,24 +321,24 @@ ran_text : (words : List (List ℕ)) (handed : ℕ) (before after : Outside) (st
     → Ran words handed before after status → (text : List ℕ) (messages : List Request) (ending : Ending)
     → before.source.left ≡ Some text → Splits text messages ending
     → (is_fault status ≡ true)
-    ⊎ RunsText (boot_with words handed) (pace_of words) messages ending status (seen_with words before)
+    ⊎ RunsText (terms_with words handed) (pace_of words) messages ending status (seen_with words before)
     (seen_with words after)
 ran_text words handed before after status r text messages ending known splits = subst
     (λ n. (is_fault n ≡ true)
-    ⊎ RunsText (boot_with words handed) (pace_of words) messages ending n (seen_with words before)
+    ⊎ RunsText (terms_with words handed) (pace_of words) messages ending n (seen_with words before)
     (seen_with words after)) (sym r.opened.status_is) (by r.opened.ends r.opened.follows.session) where
       does : (ends : SessionEnd)
-          → Session (boot_with words handed) (pace_of words) (begun r.opened.entries r.opened.state (seen_with words before))
+          → Session (terms_with words handed) (pace_of words) (begun r.opened.entries r.opened.state (seen_with words before))
           (session_world r.opened.follows.held (seen_with words after) r.opened.follows.serial) ends → IsSettled ends
-          → RunsText (boot_with words handed) (pace_of words) messages ending (status_of ends) (seen_with words before)
+          → RunsText (terms_with words handed) (pace_of words) messages ending (status_of ends) (seen_with words before)
           (seen_with words after)
-      does ends s settled = session_text (boot_with words handed) (pace_of words) (seen_with words before) (seen_with words after) status r.opened ends text messages ending s known splits settled
+      does ends s settled = session_text (terms_with words handed) (pace_of words) (seen_with words before) (seen_with words after) status r.opened ends text messages ending s known splits settled
 
       by : (ends : SessionEnd)
-          → Session (boot_with words handed) (pace_of words) (begun r.opened.entries r.opened.state (seen_with words before))
+          → Session (terms_with words handed) (pace_of words) (begun r.opened.entries r.opened.state (seen_with words before))
           (session_world r.opened.follows.held (seen_with words after) r.opened.follows.serial) ends
           → (is_fault (status_of ends) ≡ true)
-          ⊎ RunsText (boot_with words handed) (pace_of words) messages ending (status_of ends) (seen_with words before)
+          ⊎ RunsText (terms_with words handed) (pace_of words) messages ending (status_of ends) (seen_with words before)
           (seen_with words after)
       by end.Ended s = inr (does end.Ended s tt)
       by end.Cut s = inr (does end.Cut s tt)
@@ -352,7 +353,7 @@ pub top_text : (words : List (List ℕ)) (handed : ℕ) (before after : Outside)
     → Runs words handed before after status → before.source.left ≡ known
     → IfSome known (λ text. (messages : List Request) (ending : Ending) → Splits text messages ending
     → (is_fault status ≡ true)
-    ⊎ RunsText (boot_with words handed) (pace_of words) messages ending status (seen_with words before)
+    ⊎ RunsText (terms_with words handed) (pace_of words) messages ending status (seen_with words before)
     (seen_with words after))
 top_text words handed before after status None done is = tt
 top_text words handed before after status (Some text) (inl ran) is =
@@ -388,13 +389,13 @@ ran_complete : (words : List (List ℕ)) (handed : ℕ) (before after : Outside)
 ran_complete words handed before after status r text messages known splits few reads writes =
     subst (λ n. (n ≡ 0) ⊎ (n ≡ 9)) (sym r.opened.status_is) (by r.opened.ends r.opened.follows.session) where
       settled : (ends : SessionEnd)
-          → Session (boot_with words handed) (pace_of words) (begun r.opened.entries r.opened.state (seen_with words before))
+          → Session (terms_with words handed) (pace_of words) (begun r.opened.entries r.opened.state (seen_with words before))
           (session_world r.opened.follows.held (seen_with words after) r.opened.follows.serial) ends → IsSettled ends
           → (status_of ends ≡ 0) ⊎ (status_of ends ≡ 9)
-      settled ends s is = inl ((session_text (boot_with words handed) (pace_of words) (seen_with words before) (seen_with words after) status r.opened ends text messages ended s known splits is).status_is ∙ due_whole messages few)
+      settled ends s is = inl ((session_text (terms_with words handed) (pace_of words) (seen_with words before) (seen_with words after) status r.opened ends text messages ended s known splits is).status_is ∙ due_whole messages few)
 
       by : (ends : SessionEnd)
-          → Session (boot_with words handed) (pace_of words) (begun r.opened.entries r.opened.state (seen_with words before))
+          → Session (terms_with words handed) (pace_of words) (begun r.opened.entries r.opened.state (seen_with words before))
           (session_world r.opened.follows.held (seen_with words after) r.opened.follows.serial) ends
           → (status_of ends ≡ 0) ⊎ (status_of ends ≡ 9)
       by end.Ended s = inl refl
@@ -403,10 +404,10 @@ ran_complete words handed before after status r text messages known splits few r
       by end.Spent s = settled end.Spent s tt
       by end.NoMemory s = inr refl
       by end.ReadFault s = absurd (reads
-          (session_tells (boot_with words handed) (pace_of words) (begun r.opened.entries r.opened.state (seen_with words before))
+          (session_tells (terms_with words handed) (pace_of words) (begun r.opened.entries r.opened.state (seen_with words before))
           (session_world r.opened.follows.held (seen_with words after) r.opened.follows.serial) end.ReadFault s))
       by end.WriteFault s = absurd (writes
-          (session_tells (boot_with words handed) (pace_of words) (begun r.opened.entries r.opened.state (seen_with words before))
+          (session_tells (terms_with words handed) (pace_of words) (begun r.opened.entries r.opened.state (seen_with words before))
           (session_world r.opened.follows.held (seen_with words after) r.opened.follows.serial) end.WriteFault s))
 
 -- the same of any run

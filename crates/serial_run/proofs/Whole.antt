@@ -8,6 +8,7 @@ use Rattle.http_heads.specs.Messages.{Begins, Splits, Ending, ended, cut, malfor
 use Rattle.http_heads.specs.declared.request.Request.{Request}
 use Rattle.http_front.specs.Reading.{ReadsNext}
 use Rattle.http_front.specs.declared.read.Got.TheVariants as got
+use Rattle.rest_json.specs.declared.terms.Terms.{Terms}
 use Rattle.command_words.specs.declared.run_words.Pace.{Pace}
 use Rattle.rest_answers.proofs.Splitting.{GoesOn, none_more, splits_after}
 use Rattle.rest_answers.specs.Texts.{malformed_text}
@@ -156,14 +157,14 @@ due_at_end rest exchanges messages ending other ends far stands is going few =
     (due_going exchanges ending going few ∙ ap end_at none.1 ∙ is)
 
 -- a session that settled did what its input is due
-pub session_due : (boot : ℕ) (pace : Pace) (w w' : SessionWorld) (ends : SessionEnd) (text : List ℕ) (messages : List Request)
-    (ending : Ending) (s : Session boot pace w w' ends) → input w ≡ Some text → Splits text messages ending
+pub session_due : (terms : Terms) (pace : Pace) (w w' : SessionWorld) (ends : SessionEnd) (text : List ℕ) (messages : List Request)
+    (ending : Ending) (s : Session terms pace w w' ends) → input w ≡ Some text → Splits text messages ending
     → IsSettled ends → IsDue messages ending ends s.exchanges
-session_due boot pace w w' ends text messages ending s is splits settled = by ends s.counted s.stops settled where
+session_due terms pace w w' ends text messages ending s is splits settled = by ends s.counted s.stops settled where
   taken : (rest : List ℕ) × Begins text (requests_of s.exchanges) rest × (input s.reached ≡ Some rest)
   taken = subst (λ known. IfSome known
       (λ bytes. (rest : List ℕ) × Begins bytes (requests_of s.exchanges) rest × (input s.reached ≡ Some rest))) is
-      (together boot pace w s.reached s.exchanges s.serves).read
+      (together terms pace w s.reached s.exchanges s.serves).read
 
   far : GoesOn taken.0 (requests_of s.exchanges) messages ending
   far = splits_after text taken.0 (requests_of s.exchanges) messages ending taken.1 splits
@@ -172,7 +173,7 @@ session_due boot pace w w' ends text messages ending s is splits settled = by en
   at_rest P known = subst (λ input. IfSome input P) taken.2 known
 
   by : (ends : SessionEnd) → CountsAt ends (length s.exchanges)
-      → (AllGoOn s.exchanges × Stops boot ends s.reached w')
+      → (AllGoOn s.exchanges × Stops terms ends s.reached w')
       ⊎ (OnlyFinalEnds s.exchanges × StopsAfterFinal ends × (w' ≡ s.reached)) → IsSettled ends
       → IsDue messages ending ends s.exchanges
   by end.Ended few (inl (going, stops)) settled =

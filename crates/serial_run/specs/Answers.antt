@@ -6,11 +6,11 @@ use Rattle.http_heads.specs.declared.request.Request.{Request}
 use Rattle.http_front.specs.Clocks.{Readings, Reads}
 use Rattle.records.specs.declared.commands.Command.{Command}
 use Rattle.records.specs.declared.commands.What.TheVariants as what
-use Rattle.records.specs.declared.refusals.Refusal.{Refusal}
 use Rattle.records.specs.declared.replies.Reply.{Reply}
 use Rattle.records.specs.declared.replies.Reply.TheVariants as reply
 use Rattle.row_machine.specs.declared.events.Event.TheVariants as event
 use Rattle.row_machine.specs.machine.Step.{Outcome}
+use Rattle.rest_json.specs.declared.terms.Terms.{Terms}
 use Rattle.start_faults.specs.core_rows.specs.Asked.{answered}
 use Rattle.start_faults.specs.core_rows.specs.Opening.{OpensTo, Refuses}
 use Rattle.start_faults.specs.core_rows.specs.declared.opening.OpenFault.{OpenFault}
@@ -44,7 +44,7 @@ pub record Shows (project : List ℕ) (op : ℕ) (serial : Serial) (store : Stor
   pub early : moment < moment_limit
 
 -- What was asked for came to a reply.
-pub record Reaches (world : SerialWorld) (asks : Result Command Refusal) (reply : Reply) (later : SerialWorld)
+pub record Reaches (world : SerialWorld) (asks : Result Command Reply) (reply : Reply) (later : SerialWorld)
     : Type 0 where
   pub moment : Option ℕ
   pub outcome : Outcome
@@ -52,7 +52,7 @@ pub record Reaches (world : SerialWorld) (asks : Result Command Refusal) (reply 
   pub comes : IsAnswered world asks moment outcome held reply later
 
 -- One request was answered: it came to a reply, and what is to be written is that reply.
-pub record Answers (boot : ℕ) (world later : SerialWorld) (request : Request) (result : PrintedReply) : Type 0 where
+pub record Answers (terms : Terms) (world later : SerialWorld) (request : Request) (result : PrintedReply) : Type 0 where
   pub reply : Reply
-  pub reaches : Reaches world (command_of request boot) reply later
-  pub text : HasText result reply boot request
+  pub reaches : Reaches world (command_of request terms) reply later
+  pub text : HasText result reply terms request

@@ -9,6 +9,7 @@ use Rattle.http_front.specs.Clocks.{Readings, Reads}
 use Rattle.record_keeper.specs.Store.{Store}
 use Rattle.row_machine.specs.machine.State.{State}
 use Rattle.row_machine.specs.opening.Records.{records_of}
+use Rattle.rest_json.specs.declared.terms.Terms.{Terms}
 use Rattle.start_faults.specs.core_rows.specs.Opening.{OpensTo, Refuses}
 use Rattle.start_faults.specs.core_rows.specs.declared.opening.OpenFault.{OpenFault}
 use Rattle.start_faults.specs.core_rows.specs.declared.opening.OpenFault.TheVariants as fault
@@ -69,7 +70,7 @@ drilled_text replies state = summary replies ++ report_of state
 
 -- Requests were answered from an empty buffer on, over a source that gives them all and a sink that had taken
 -- nothing, and the worker made all of its steps after each. The replies are what the sink took.
-pub record Answers (boot : ℕ) (stream : List ℕ) (world later : SerialWorld) (replies : List ℕ)
+pub record Answers (terms : Terms) (stream : List ℕ) (world later : SerialWorld) (replies : List ℕ)
     (ends : SessionEnd) : Type 0 where
   pub source : Inlet
   pub known : source.left ≡ Some stream
@@ -78,7 +79,7 @@ pub record Answers (boot : ℕ) (stream : List ℕ) (world later : SerialWorld) 
   pub held : List ℕ
   pub source' : Inlet
   pub failures' : ℕ
-  pub session : Session boot pace.All
+  pub session : Session terms pace.All
       (record { held = []; source = source; sink = sink; serial_world = world })
       (record {
         held = held;
@@ -94,12 +95,12 @@ TellsDrill end.Ended status text sink sink' = Tells status text sink sink'
 TellsDrill other status text sink sink' = (status ≡ 9) × (sink' ≡ sink)
 
 -- made requests were answered from here on, and what they came to was told
-pub record Drilled (boot : ℕ) (stream : List ℕ) (status : ℕ) (start : SerialWorld) (sink : Outlet) (store' : Store)
+pub record Drilled (terms : Terms) (stream : List ℕ) (status : ℕ) (start : SerialWorld) (sink : Outlet) (store' : Store)
     (host' : Hosted) (clock' : Readings) (sink' : Outlet) : Type 0 where
   pub last : Serial
   pub replies : List ℕ
   pub ends : SessionEnd
-  pub answers : Answers boot stream start (serial_world last store' host' clock') replies ends
+  pub answers : Answers terms stream start (serial_world last store' host' clock') replies ends
   pub tells : TellsDrill ends status (drilled_text replies last.state) sink sink'
 
 -- memory was refused before the first request
@@ -112,18 +113,18 @@ pub record OutOfMemory (status : ℕ) (start : SerialWorld) (sink : Outlet) (sto
   pub clock : clock' ≡ start.clock
   pub silent : sink' ≡ sink
 
-abbrev pub DrillsOver : ℕ → List ℕ → ℕ → SerialWorld → Outlet → Store → Hosted → Readings → Outlet → Type 0
-DrillsOver boot stream status start sink store' host' clock' sink' =
-    Drilled boot stream status start sink store' host' clock' sink'
+abbrev pub DrillsOver : Terms → List ℕ → ℕ → SerialWorld → Outlet → Store → Hosted → Readings → Outlet → Type 0
+DrillsOver terms stream status start sink store' host' clock' sink' =
+    Drilled terms stream status start sink store' host' clock' sink'
     ⊎ OutOfMemory status start sink store' host' clock' sink'
 
 -- the entries of the keeper open to a state, and made requests were answered from it on
-pub record OpenedDrill (boot : ℕ) (stream : List ℕ) (status : ℕ) (store : Store) (host : Hosted) (clock : Readings)
+pub record OpenedDrill (terms : Terms) (stream : List ℕ) (status : ℕ) (store : Store) (host : Hosted) (clock : Readings)
     (sink : Outlet) (store' : Store) (host' : Hosted) (clock' : Readings) (sink' : Outlet) : Type 0 where
   pub state : State
   pub opened : Store
   pub opens : OpensTo state store opened
-  pub over : DrillsOver boot stream status
+  pub over : DrillsOver terms stream status
       (serial_world (serial state None) opened host clock) sink store' host' clock' sink'
 
 -- the rows were not opened: no call of the host or of the clock was made either
@@ -133,16 +134,16 @@ pub record UnopenedDrill (status : ℕ) (store : Store) (host : Hosted) (clock :
   pub same_host : host' ≡ host
   pub same_clock : clock' ≡ clock
 
-abbrev pub Drills : ℕ → List ℕ → ℕ → Store → Hosted → Readings → Outlet → Store → Hosted → Readings → Outlet → Type 0
-Drills boot stream status store host clock sink store' host' clock' sink' =
-    OpenedDrill boot stream status store host clock sink store' host' clock' sink'
+abbrev pub Drills : Terms → List ℕ → ℕ → Store → Hosted → Readings → Outlet → Store → Hosted → Readings → Outlet → Type 0
+Drills terms stream status store host clock sink store' host' clock' sink' =
+    OpenedDrill terms stream status store host clock sink store' host' clock' sink'
     ⊎ UnopenedDrill status store host clock sink store' host' clock' sink'
 
 -- The drill did what its requests ask, and nothing else. They lead, each with its moment, its outcome, its reply and
 -- the steps of the worker, from the rows that the keeper's entries open to, with no call in hand, to some rows, and
 -- with them the store and the host to those at the end. What was written is the summary of their replies and the
 -- report of the rows. The keeper has the records of the rows, and the counts of failures bear the outcomes out.
-pub record DrillsText (boot : ℕ) (messages : List Request) (status : ℕ) (store : Store) (host : Hosted)
+pub record DrillsText (terms : Terms) (messages : List Request) (status : ℕ) (store : Store) (host : Hosted)
     (clock : Readings) (sink : Outlet) (store' : Store) (host' : Hosted) (clock' : Readings) (sink' : Outlet)
     : Type 0 where
   pub state : State
@@ -151,11 +152,11 @@ pub record DrillsText (boot : ℕ) (messages : List Request) (status : ℕ) (sto
   pub exchanges : List Exchange
   pub last : Serial
   pub requests_are : requests_of exchanges ≡ answered messages
-  pub leads : LeadTo boot pace.All (serial_world (serial state None) opened host clock) exchanges
+  pub leads : LeadTo terms pace.All (serial_world (serial state None) opened host clock) exchanges
       (serial_world last store' host' clock')
   pub moments : Reads clock (moments_of exchanges) clock'
   pub early : All (λ moment. moment < moment_limit) (moments_of exchanges)
-  pub written : Tells status (drilled_text (printed_replies boot exchanges) last.state) sink sink'
+  pub written : Tells status (drilled_text (printed_replies terms exchanges) last.state) sink sink'
   pub kept : store'.contents ≡ option_map (λ _. records_of last.state) store.contents
   pub keeper_failed : RoseBy (keeper_failures_of exchanges) store.failures store'.failures
   pub host_failed : RoseBy (host_failures_of exchanges) host.failures host'.failures

@@ -1,11 +1,13 @@
 -- What the program does by its words: a run, or another command.
-use Rattle.std.specs.Prelude.{◌≡◌, ◌⊎◌, ℕ, List, Option, Some, None}
+use Rattle.std.specs.Prelude.{◌≡◌, ◌⊎◌, ℕ, List, false, Option, Some, None}
 use Rattle.size_values.specs.declared.entry.Entry.{Entry}
 use Rattle.record_keeper.specs.Store.{Store}
 use Rattle.row_machine.specs.machine.State.{State}
 use Rattle.row_machine.specs.opening.Opening.{opened, opening_of}
 use Rattle.http_heads.specs.Messages.{Splits, ended}
 use Rattle.http_heads.specs.declared.request.Request.{Request}
+use Rattle.rest_json.specs.declared.terms.Dialect.TheVariants.{Plain}
+use Rattle.rest_json.specs.declared.terms.Terms.{Terms}
 use Rattle.command_words.specs.RunWords.{words_of}
 use Rattle.command_words.specs.declared.run_words.CommandWords.{CommandWords}
 use Rattle.command_words.specs.declared.run_words.CommandWords.TheVariants.{Check, Drill, Make, Run}
@@ -29,12 +31,16 @@ pub record ChecksOnly (before after : Outside) (status : ℕ) : Type 0 where
   pub host : after.host ≡ before.host
   pub clock : after.clock ≡ before.clock
 
--- made requests were answered, with the boot word that is handed in, and what they came to was told
+-- the terms of a drill: the boot word that is handed in, and the plain dialect
+abbrev pub drill_terms : ℕ → Terms
+drill_terms handed = record { boot = handed; dialect = Plain; refuses_origin = false }
+
+-- made requests were answered on these terms, and what they came to was told
 pub record DrillsOnly (handed seed count : ℕ) (before after : Outside) (status : ℕ) : Type 0 where
-  pub drills : Drills handed (stream_of seed count) status before.keeper before.host before.clock before.sink
+  pub drills : Drills (drill_terms handed) (stream_of seed count) status before.keeper before.host before.clock before.sink
       after.keeper after.host after.clock after.sink
   pub text : (messages : List Request) → Splits (stream_of seed count) messages ended → (status ≡ 0) ⊎ (status ≡ 5)
-      → DrillsText handed messages status before.keeper before.host before.clock before.sink
+      → DrillsText (drill_terms handed) messages status before.keeper before.host before.clock before.sink
       after.keeper after.host after.clock after.sink
   pub source : after.source ≡ before.source
 

@@ -9,9 +9,7 @@ use Rattle.size_values.specs.Moments.{moment_limit}
 use Rattle.http_heads.specs.declared.request.Request.{Request}
 use Rattle.http_front.specs.Clocks.{Readings, Reads}
 use Rattle.records.specs.declared.commands.Command.{Command}
-use Rattle.records.specs.declared.refusals.Refusal.{Refusal}
 use Rattle.records.specs.declared.replies.Reply.{Reply}
-use Rattle.records.specs.declared.replies.Reply.TheVariants as reply
 use Rattle.row_machine.specs.declared.changes.RowChange.{RowChange}
 use Rattle.row_machine.specs.declared.events.Answer.{Answer}
 use Rattle.row_machine.specs.declared.events.Answer.TheVariants as answer
@@ -19,6 +17,7 @@ use Rattle.row_machine.specs.declared.events.Event.TheVariants as event
 use Rattle.row_machine.specs.machine.State.{State}
 use Rattle.row_machine.specs.machine.Accept.{After, and_then}
 use Rattle.row_machine.specs.machine.Step.{Outcome, well, keeper_failed, no_memory, step}
+use Rattle.rest_json.specs.declared.terms.Terms.{Terms}
 use Rattle.start_faults.specs.core_reports.specs.Stores.{IsCaused, KeepsRecords, Stores}
 use Rattle.start_faults.specs.core_rows.specs.Asked.{answered, changes_of}
 use Rattle.serial_steps.specs.Steps.{SerialWorld, Step, StepsWhile, Finishes, WaitsFor, most_steps}
@@ -49,11 +48,11 @@ pub record Exchange : Type 0 where
 
 -- ---- what a request asks for
 
--- a request that is refused by its form asks for no command: the keeper is not called, and nothing changes
-abbrev pub refused : State → Refusal → Outcome → Option After
-refused state refusal well = Some (and_then (answer.Reply (reply.Refused refusal)) state)
-refused state refusal (keeper_failed rise) = None
-refused state refusal no_memory = Some (and_then answer.NoMemory state)
+-- a request that was read as this reply asks for no command: the keeper is not called, and nothing changes
+abbrev pub read_as : Reply → State → Outcome → Option After
+read_as said state well = Some (and_then (answered said) state)
+read_as said state (keeper_failed rise) = None
+read_as said state no_memory = Some (and_then answer.NoMemory state)
 
 -- memory was refused before the command of a request was known: nothing changes
 abbrev pub unasked : State → Outcome → Option After
@@ -62,18 +61,18 @@ unasked state (keeper_failed rise) = None
 unasked state no_memory = Some (and_then answer.NoMemory state)
 
 -- The command that a request asks for is one turn of the server, at the moment at which it was asked. A request without
--- a moment was refused by its form, or memory was refused before its command was known; one that is refused by its form
--- has no moment. None where the outcome is not possible with it.
-abbrev pub carried_out : State → Option ℕ → Outcome → Result Command Refusal → Option After
+-- a moment was read as a reply, as one that is refused by its form, or memory was refused before its command was known;
+-- one that was read as a reply has no moment. None where the outcome is not possible with it.
+abbrev pub carried_out : State → Option ℕ → Outcome → Result Command Reply → Option After
 carried_out state (Some moment) outcome (Ok command) = step state (event.Ask command moment) outcome
-carried_out state (Some moment) outcome (Err refusal) = None
+carried_out state (Some moment) outcome (Err said) = None
 carried_out state None outcome (Ok command) = unasked state outcome
-carried_out state None outcome (Err refusal) = refused state refusal outcome
+carried_out state None outcome (Err said) = read_as said state outcome
 
 -- the changes of rows that a request is to commit: those of the command that was asked, and none where no command was
-abbrev pub asked_changes : State → Option ℕ → Result Command Refusal → List RowChange
+abbrev pub asked_changes : State → Option ℕ → Result Command Reply → List RowChange
 asked_changes state (Some moment) (Ok command) = changes_of state command moment
-asked_changes state (Some moment) (Err refusal) = []
+asked_changes state (Some moment) (Err said) = []
 asked_changes state None asked = []
 
 -- The clock was read for a command that was asked at this moment, before the year 10000, or for none it was not read.
@@ -84,7 +83,7 @@ pub record AsksAt (moment : Option ℕ) (told told' : Readings) : Type 0 where
 -- What was asked for at one moment was answered so, with an outcome that the keeper's count bears out. Its changes went
 -- to the store in one call, and without changes the keeper was not called. The call in hand and the host are as before.
 -- Entries that were the records of the rows are so afterwards.
-pub record Carries (world : SerialWorld) (asked : Result Command Refusal) (moment : Option ℕ) (outcome : Outcome)
+pub record Carries (world : SerialWorld) (asked : Result Command Reply) (moment : Option ℕ) (outcome : Outcome)
     (answer : Answer) (later : SerialWorld)
     : Type 0 where
   pub is : carried_out world.serial.state moment outcome asked ≡ Some (and_then answer later.serial.state)
@@ -99,7 +98,7 @@ pub record Carries (world : SerialWorld) (asked : Result Command Refusal) (momen
 
 -- The command was a wait for an operation that was live, so its answer was held back; steps were made until the
 -- operation had ended; and then it was asked for in the same project, and was answered by this reply.
-pub record HeldBack (world : SerialWorld) (asked : Result Command Refusal) (moment : Option ℕ) (outcome : Outcome)
+pub record HeldBack (world : SerialWorld) (asked : Result Command Reply) (moment : Option ℕ) (outcome : Outcome)
     (held : Held)
     (reply : Reply)
     (later : SerialWorld) : Type 0 where
@@ -114,14 +113,14 @@ pub record HeldBack (world : SerialWorld) (asked : Result Command Refusal) (mome
   pub shows : Carries ended (Ok (showing op command)) (Some held.moment) held.outcome (answered reply) later
 
 -- What was asked for was answered by this reply, at once or after its answer was held back.
-abbrev pub IsAnswered : SerialWorld → Result Command Refusal → Option ℕ → Outcome → Option Held → Reply → SerialWorld
+abbrev pub IsAnswered : SerialWorld → Result Command Reply → Option ℕ → Outcome → Option Held → Reply → SerialWorld
     → Type 0
 IsAnswered world asked moment outcome None reply later = Carries world asked moment outcome (answered reply) later
 IsAnswered world asked moment outcome (Some held) reply later = HeldBack world asked moment outcome held reply later
 
--- a request came to its reply; the daemon's boot word is that of the ids of operations
-abbrev pub Comes : ℕ → SerialWorld → Exchange → SerialWorld → Type 0
-Comes boot world exchange later = IsAnswered world (command_of exchange.request boot)
+-- a request came to its reply, read on these terms
+abbrev pub Comes : Terms → SerialWorld → Exchange → SerialWorld → Type 0
+Comes terms world exchange later = IsAnswered world (command_of exchange.request terms)
     exchange.moment exchange.outcome exchange.held exchange.reply later
 
 -- ---- and steps follow
@@ -139,18 +138,18 @@ IsPaced (pace.Steps count) world steps later = MakesUpTo count world steps later
 IsPaced pace.All world steps later = Finishes world steps later × (length steps ≤ most_steps)
 
 -- a request came to its reply, and the steps of the pace followed
-pub record Leads (boot : ℕ) (follows : Pace) (world : SerialWorld) (exchange : Exchange) (later : SerialWorld)
+pub record Leads (terms : Terms) (follows : Pace) (world : SerialWorld) (exchange : Exchange) (later : SerialWorld)
     : Type 0 where
   pub replied : SerialWorld
-  pub comes : Comes boot world exchange replied
+  pub comes : Comes terms world exchange replied
   pub paced : IsPaced follows replied exchange.steps later
 
 -- Exchanges lead from one moment of the server to another: each request comes to its reply, and with the steps after it
 -- to the moment at which the next one is taken.
-abbrev pub LeadTo : ℕ → Pace → SerialWorld → List Exchange → SerialWorld → Type 0
-LeadTo boot follows world [] later = world ≡ later
-LeadTo boot follows world (exchange ∷ more) later =
-    (next : SerialWorld) × Leads boot follows world exchange next × LeadTo boot follows next more later
+abbrev pub LeadTo : Terms → Pace → SerialWorld → List Exchange → SerialWorld → Type 0
+LeadTo terms follows world [] later = world ≡ later
+LeadTo terms follows world (exchange ∷ more) later =
+    (next : SerialWorld) × Leads terms follows world exchange next × LeadTo terms follows next more later
 
 -- ---- what they read, and what failed in them
 
@@ -192,5 +191,5 @@ host_failures_of exchanges = sum_by host_failures_at exchanges
 -- ---- their bytes
 
 -- the bytes of the replies, in their order
-abbrev pub printed_replies : ℕ → List Exchange → List ℕ
-printed_replies boot exchanges = flat_map (λ exchange. printed exchange.reply boot exchange.request) exchanges
+abbrev pub printed_replies : Terms → List Exchange → List ℕ
+printed_replies terms exchanges = flat_map (λ exchange. printed exchange.reply terms exchange.request) exchanges

@@ -13,6 +13,7 @@ use Rattle.row_machine.specs.declared.events.Event.TheVariants as event
 use Rattle.row_machine.specs.machine.State.{State}
 use Rattle.row_machine.specs.machine.Step.{Outcome, well, keeper_failed, no_memory}
 use Rattle.row_machine.specs.opening.Records.{records_of}
+use Rattle.rest_json.specs.declared.terms.Terms.{Terms}
 use Rattle.machine_laws.specs.Entries.{entry_changes}
 use Rattle.serial_steps.specs.core_turns.specs.Turns.{Turns, changes_by}
 use Rattle.serial_steps.specs.Steps.{SerialWorld, Step, took, reported}
@@ -86,13 +87,13 @@ KeepsAll state store (event ∷ events) later store' =
 -- of the keeper it tells the records of the rows after all changes and operations so far, with the one in progress or
 -- without it, and after each change that was answered with success with it.
 abbrev pub AfterEachCall : Type 0
-AfterEachCall = (boot : ℕ) (follows : Pace) (world : SerialWorld) (exchanges : List Exchange) (later : SerialWorld) →
-    LeadTo boot follows world exchanges later → world.store.contents ≡ Some (records_of world.serial.state) →
+AfterEachCall = (terms : Terms) (follows : Pace) (world : SerialWorld) (exchanges : List Exchange) (later : SerialWorld) →
+    LeadTo terms follows world exchanges later → world.store.contents ≡ Some (records_of world.serial.state) →
     KeepsAll world.serial.state world.store (events_of exchanges) later.serial.state later.store
 
 -- the same of a request that came to its reply, whose reply may not have been written
 abbrev pub AfterEachCallOfOne : Type 0
-AfterEachCallOfOne = (boot : ℕ) (world : SerialWorld) (exchange : Exchange) (later : SerialWorld) →
-    Comes boot world exchange later → world.store.contents ≡ Some (records_of world.serial.state) →
+AfterEachCallOfOne = (terms : Terms) (world : SerialWorld) (exchange : Exchange) (later : SerialWorld) →
+    Comes terms world exchange later → world.store.contents ≡ Some (records_of world.serial.state) →
     KeepsAll world.serial.state world.store (asked_at exchange.moment exchange.outcome ++ held_at exchange.held)
     later.serial.state later.store

@@ -6,13 +6,14 @@ use Rattle.size_values.specs.declared.entry.Entry.{Entry}
 use Rattle.record_keeper.specs.Store.{Store}
 use Rattle.row_machine.specs.machine.State.{State}
 use Rattle.row_machine.specs.opening.Opening.{Opening, opened, opening_of}
+use Rattle.rest_json.specs.declared.terms.Terms.{Terms}
 use Rattle.start_faults.specs.core_rows.specs.Opening.{AreContents, OpensTo, OpensToNone, Refuses}
 use Rattle.start_faults.specs.core_rows.specs.Opening.{is_refused, opened_store}
 use Rattle.start_faults.specs.core_rows.specs.declared.opening.OpenFault.{OpenFault}
 use Rattle.start_faults.specs.core_rows.specs.declared.opening.OpenFault.TheVariants as fault
 use Rattle.serial_steps.specs.Steps.{Serial, serial}
 use Rattle.start_faults.specs.Starts.{IsUnopened, start_fault, start_status}
-use Rattle.command_words.specs.RunWords.{boot_of, is_run, now_of, pace_of, words_of}
+use Rattle.command_words.specs.RunWords.{boot_of, dialect_of, is_run, now_of, pace_of, words_of}
 use Rattle.command_words.specs.declared.run_words.Pace.{Pace}
 use Rattle.start_faults.specs.declared.fault.StartFault.{StartFault}
 use Rattle.start_faults.specs.declared.fault.StartFault.TheVariants as start
@@ -37,18 +38,20 @@ abbrev pub IsUnread : Option ℕ → Readings → Readings → Type 0
 IsUnread (Some moment) told told' = told' ≡ told
 IsUnread None told told' = Unit {0}
 
--- the boot word of a run: the one that the words say, or the one that is handed in
-abbrev pub boot_with : List (List ℕ) → ℕ → ℕ
-boot_with words handed = unwrap_or (boot_of words) handed
+-- The terms of a run: the boot word that the words say, or the one that is handed in; and the dialect that the words say.
+-- A request on standard input is never refused for its `Origin`.
+abbrev pub terms_with : List (List ℕ) → ℕ → Terms
+terms_with words handed =
+    record { boot = unwrap_or (boot_of words) handed; dialect = dialect_of words; refuses_origin = false }
 
 -- A session from this world on, with the outside seen so at its end, and rows that nobody sees. What is still to come
 -- is what its buffer holds, at most one head, one body and one piece, and what the source has left.
-pub record SessionFrom (boot : ℕ) (pace : Pace) (start : SessionWorld) (after : Outside) (ends : SessionEnd)
+pub record SessionFrom (terms : Terms) (pace : Pace) (start : SessionWorld) (after : Outside) (ends : SessionEnd)
     : Type 0 where
   pub held : List ℕ
   pub few : length held ≤ most_held
   pub serial : Serial
-  pub session : Session boot pace start (session_world held after serial) ends
+  pub session : Session terms pace start (session_world held after serial) ends
 
 -- what a session sees at its begin of an outside whose keeper had these entries, which open to this state: its rows,
 -- whose records the entries are now, and no call in hand
@@ -57,20 +60,20 @@ begun entries state before =
     session_world [] (record before { keeper = opened_store entries state before.keeper }) (serial state None)
 
 -- the entries of the keeper were opened, and there was one session, from an empty buffer on
-pub record Opened (boot : ℕ) (pace : Pace) (before after : Outside) (status : ℕ) : Type 0 where
+pub record Opened (terms : Terms) (pace : Pace) (before after : Outside) (status : ℕ) : Type 0 where
   pub entries : List Entry
   pub contents : AreContents entries before.keeper
   pub state : State
   pub opens : opening_of entries ≡ opened state
   pub ends : SessionEnd
-  pub follows : SessionFrom boot pace (begun entries state before) after ends
+  pub follows : SessionFrom terms pace (begun entries state before) after ends
   pub status_is : status ≡ status_of ends
 
--- The words were read, and there was one session over the clock of the run, with its boot word, at the pace that the
+-- The words were read, and there was one session over the clock of the run, on its terms, at the pace that the
 -- words say.
 pub record Ran (words : List (List ℕ)) (handed : ℕ) (before after : Outside) (status : ℕ) : Type 0 where
   pub read : is_run words ≡ true
-  pub opened : Opened (boot_with words handed) (pace_of words) (seen_with words before) (seen_with words after) status
+  pub opened : Opened (terms_with words handed) (pace_of words) (seen_with words before) (seen_with words after) status
   pub unread : IsUnread (now_of words) before.clock after.clock
 
 -- Why there was no session. Words that are not read leave the keeper as it was, as does out of memory while they are
@@ -108,5 +111,5 @@ pub record Unopened (before after : Outside) (status : ℕ) : Type 0 where
   pub clock : after.clock ≡ before.clock
 
 -- once the words are read, the rows were opened and there was a session, or they were not
-abbrev pub RunsOver : ℕ → Pace → Outside → Outside → ℕ → Type 0
-RunsOver boot pace before after status = Opened boot pace before after status ⊎ Unopened before after status
+abbrev pub RunsOver : Terms → Pace → Outside → Outside → ℕ → Type 0
+RunsOver terms pace before after status = Opened terms pace before after status ⊎ Unopened before after status

@@ -1,4 +1,4 @@
--- A session: it serves requests, and then it stops for one reason. The boot word is that of the ids of operations, and
+-- A session: it serves requests, and then it stops for one reason. The terms say how they are read and printed, and
 -- the pace says how many steps of the worker follow each reply.
 use Rattle.std.specs.Prelude.{◌≡◌, ◌≢◌, ◌<◌, ◌≤◌, ◌⊎◌, ℕ, List, [], ◌∷◌, Bool, true, false, length, take}
 use Rattle.std.specs.Prelude.{Result, Ok, Err, ◌+◌, ◌==◌, if◌then◌else◌}
@@ -7,6 +7,7 @@ use Rattle.http_heads.specs.declared.request.Request.{Request}
 use Rattle.http_front.specs.declared.read.Got.{Got}
 use Rattle.http_front.specs.declared.read.Got.TheVariants as got
 use Rattle.records.specs.declared.replies.Reply.TheVariants as reply
+use Rattle.rest_json.specs.declared.terms.Terms.{Terms}
 use Rattle.serial_steps.specs.Steps.{SerialWorld, Step}
 use Rattle.command_words.specs.declared.run_words.Pace.{Pace}
 use Rattle.rest_answers.specs.Links.{BreaksOff, Outlet, ReadsFrom, Takes}
@@ -31,57 +32,57 @@ abbrev pub KeepsRows : SessionWorld → SessionWorld → Type 0
 KeepsRows world later = later.serial_world ≡ world.serial_world
 
 -- The next request was taken and came to its reply. No steps follow it yet.
-pub record CarriesOut (boot : ℕ) (world later : SessionWorld) (exchange : Exchange) : Type 0 where
+pub record CarriesOut (terms : Terms) (world later : SessionWorld) (exchange : Exchange) : Type 0 where
   pub asked : Asks world later (got.Request exchange.request)
-  pub comes : Comes boot world.serial_world exchange later.serial_world
+  pub comes : Comes terms world.serial_world exchange later.serial_world
   pub still : exchange.steps ≡ []
 
 -- The next request was taken and came to its reply, which was written whole, and the steps of the pace followed.
-pub record Serves (boot : ℕ) (pace : Pace) (world later : SessionWorld) (exchange : Exchange) : Type 0 where
+pub record Serves (terms : Terms) (pace : Pace) (world later : SessionWorld) (exchange : Exchange) : Type 0 where
   pub asked : Asks world later (got.Request exchange.request)
-  pub leads : Leads boot pace world.serial_world exchange later.serial_world
-  pub replied : Takes world.sink later.sink (printed exchange.reply boot exchange.request)
+  pub leads : Leads terms pace world.serial_world exchange later.serial_world
+  pub replied : Takes world.sink later.sink (printed exchange.reply terms exchange.request)
 
 -- ---- stops
 
 -- What stands next where a session stops before another request was answered whole, and what was done of it: nothing
 -- after the end of the input and at a failed read; its reply at a malformed place; a part of a reply where a write
 -- failed; and where memory was refused, nothing is written, after a request was carried out or before.
-abbrev pub Stops : ℕ → SessionEnd → SessionWorld → SessionWorld → Type 0
-Stops boot end.Ended world later = Asks world later got.End × KeepsRows world later × (later.sink ≡ world.sink)
-Stops boot end.Cut world later =
+abbrev pub Stops : Terms → SessionEnd → SessionWorld → SessionWorld → Type 0
+Stops terms end.Ended world later = Asks world later got.End × KeepsRows world later × (later.sink ≡ world.sink)
+Stops terms end.Cut world later =
     (count : ℕ) × Asks world later (got.Cut count) × KeepsRows world later × (later.sink ≡ world.sink)
-Stops boot (end.Malformed fault) world later = Asks world later (got.Malformed fault) × KeepsRows world later
+Stops terms (end.Malformed fault) world later = Asks world later (got.Malformed fault) × KeepsRows world later
     × Takes world.sink later.sink (malformed_text fault)
-Stops boot end.ReadFault world later =
+Stops terms end.ReadFault world later =
     Asks world later got.ReadFault × KeepsRows world later × (later.sink ≡ world.sink)
-Stops boot end.WriteFault world later =
-    ((exchange : Exchange) × CarriesOut boot world later exchange
-    × BreaksOff world.sink later.sink (printed exchange.reply boot exchange.request))
+Stops terms end.WriteFault world later =
+    ((exchange : Exchange) × CarriesOut terms world later exchange
+    × BreaksOff world.sink later.sink (printed exchange.reply terms exchange.request))
     ⊎ ((fault : HeadFault) × Asks world later (got.Malformed fault) × KeepsRows world later
     × BreaksOff world.sink later.sink (malformed_text fault))
-Stops boot end.Spent world later = later ≡ world
-Stops boot end.NoMemory world later =
+Stops terms end.Spent world later = later ≡ world
+Stops terms end.NoMemory world later =
     (Asks world later got.NoMemory × KeepsRows world later × (later.sink ≡ world.sink))
     ⊎ ((fault : HeadFault) × Asks world later (got.Malformed fault) × KeepsRows world later × (later.sink ≡ world.sink))
-    ⊎ ((exchange : Exchange) × CarriesOut boot world later exchange
+    ⊎ ((exchange : Exchange) × CarriesOut terms world later exchange
     × (exchange.reply ≢ reply.NoMemory) × (later.sink ≡ world.sink))
 
 -- one turn: the next request was answered, or the session stops
-abbrev pub Turns : ℕ → Pace → Turn → SessionWorld → SessionWorld → Type 0
-Turns boot pace turn.GoOn world later =
-    (exchange : Exchange) × Serves boot pace world later exchange × (exchange.request.last ≡ false)
-Turns boot pace turn.Final world later =
-    (exchange : Exchange) × Serves boot pace world later exchange × (exchange.request.last ≡ true)
-Turns boot pace (turn.Stop ends) world later = Stops boot ends world later × (ends ≢ end.Spent)
+abbrev pub Turns : Terms → Pace → Turn → SessionWorld → SessionWorld → Type 0
+Turns terms pace turn.GoOn world later =
+    (exchange : Exchange) × Serves terms pace world later exchange × (exchange.request.last ≡ false)
+Turns terms pace turn.Final world later =
+    (exchange : Exchange) × Serves terms pace world later exchange × (exchange.request.last ≡ true)
+Turns terms pace (turn.Stop ends) world later = Stops terms ends world later × (ends ≢ end.Spent)
 
 -- ---- a session
 
 -- requests were answered one after the other
-abbrev pub ServesAll : ℕ → Pace → SessionWorld → List Exchange → SessionWorld → Type 0
-ServesAll boot pace world [] later = world ≡ later
-ServesAll boot pace world (exchange ∷ more) later =
-    (next : SessionWorld) × Serves boot pace world next exchange × ServesAll boot pace next more later
+abbrev pub ServesAll : Terms → Pace → SessionWorld → List Exchange → SessionWorld → Type 0
+ServesAll terms pace world [] later = world ≡ later
+ServesAll terms pace world (exchange ∷ more) later =
+    (next : SessionWorld) × Serves terms pace world next exchange × ServesAll terms pace next more later
 
 -- no request of these is the last one on its connection
 abbrev pub AllGoOn : List Exchange → Type 0
@@ -117,12 +118,12 @@ StopsAfterFinal end.NoMemory = ⊥
 
 -- A session from one world to a later one: the requests that it answered whole, the world after them, and how it
 -- stopped there. Either none of them was the last on its connection, or the final one alone was.
-pub record Session (boot : ℕ) (pace : Pace) (world later : SessionWorld) (ends : SessionEnd) : Type 0 where
+pub record Session (terms : Terms) (pace : Pace) (world later : SessionWorld) (ends : SessionEnd) : Type 0 where
   pub exchanges : List Exchange
   pub reached : SessionWorld
-  pub serves : ServesAll boot pace world exchanges reached
+  pub serves : ServesAll terms pace world exchanges reached
   pub counted : CountsAt ends (length exchanges)
-  pub stops : (AllGoOn exchanges × Stops boot ends reached later)
+  pub stops : (AllGoOn exchanges × Stops terms ends reached later)
       ⊎ (OnlyFinalEnds exchanges × StopsAfterFinal ends × (later ≡ reached))
 
 -- ---- the parts of a turn, one by one

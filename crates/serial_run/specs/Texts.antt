@@ -13,6 +13,7 @@ use Rattle.size_values.specs.declared.entry.Entry.{Entry}
 use Rattle.row_machine.specs.machine.State.{State}
 use Rattle.row_machine.specs.opening.Opening.{opened, opening_of}
 use Rattle.row_machine.specs.opening.Records.{records_of}
+use Rattle.rest_json.specs.declared.terms.Terms.{Terms}
 use Rattle.start_faults.specs.core_rows.specs.Opening.{AreContents, opened_store}
 use Rattle.serial_steps.specs.Steps.{Serial, serial}
 use Rattle.command_words.specs.declared.run_words.Pace.{Pace}
@@ -30,7 +31,7 @@ use Rattle.serial_run.specs.Worlds.{Outside, within}
 -- exit status is the one that is due, the sink took the replies in their order, the keeper has the records of the
 -- rows at the end, its count rose at least once for each outcome in which it failed, and the host's for each report
 -- of a failed call.
-pub record RunsText (boot : ℕ) (pace : Pace) (messages : List Request) (ending : Ending) (status : ℕ)
+pub record RunsText (terms : Terms) (pace : Pace) (messages : List Request) (ending : Ending) (status : ℕ)
     (before after : Outside)
     : Type 0 where
   pub entries : List Entry
@@ -40,14 +41,14 @@ pub record RunsText (boot : ℕ) (pace : Pace) (messages : List Request) (ending
   pub exchanges : List Exchange
   pub last : Serial
   pub requests_are : requests_of exchanges ≡ answered messages
-  pub leads : LeadTo boot pace
+  pub leads : LeadTo terms pace
       (within (record before { keeper = opened_store entries state before.keeper }) (serial state None)) exchanges
       (within after last)
   pub moments : Reads before.clock (moments_of exchanges) after.clock
   pub early : All (λ moment. moment < moment_limit) (moments_of exchanges)
   pub status_is : status ≡ (end_due messages ending).status
   pub written : Appends before.sink.held after.sink.held
-      (printed_replies boot exchanges ++ (end_due messages ending).text)
+      (printed_replies terms exchanges ++ (end_due messages ending).text)
   pub kept : after.keeper.contents ≡ option_map (λ _. records_of last.state) before.keeper.contents
   pub keeper_failed : RoseBy (keeper_failures_of exchanges) before.keeper.failures after.keeper.failures
   pub host_failed : RoseBy (host_failures_of exchanges) before.host.failures after.host.failures

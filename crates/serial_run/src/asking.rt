@@ -13,10 +13,10 @@ use http_front::{Clock, Request};
 use record_keeper::Keeper;
 use records::{Command, Reply, What};
 use rest_answers::{PrintedReply, ReplyOrWait, reply_of, reply_or_wait_of, server_answer};
+use rest_json::Terms;
 use rest_routes::Router;
 use serial_steps::{SerialDaemon, server_is_told};
 use size_values::Text;
-use start_faults::refused_reply;
 use std::alloc::Global;
 
 /// Asks for an operation in a project.
@@ -75,18 +75,19 @@ pub(crate) fn tell_of_server<C: Clock>(
     daemon: &SerialDaemon,
     clock: &mut C,
     request: &Request,
+    terms: Terms,
 ) -> PrintedReply
-    requires asked { (boot : ℕ) → command_of request.now boot ≡ Ok server_asked }
+    requires asked { command_of request.now terms ≡ Ok server_asked }
     requires stays { request.now.last ≡ false }
     requires by_get { asks_head request.now ≡ false }
-    ensures { (boot : ℕ) (store : Store) (host : Hosted) → Answers boot
+    ensures { (store : Store) (host : Hosted) → Answers terms
         (serial_world daemon.now store host (C.readings clock.old))
         (serial_world daemon.now store host (C.readings clock.new))
         request.now result }
 {
     server_is_told();
     let _moment = clock.now();
-    server_answer()
+    server_answer(terms)
 }
 
 /// Routes a request and asks for its command, at the next moment of the clock.
@@ -98,16 +99,16 @@ pub(crate) fn reply_to<R: Keeper, H: Host, C: Clock>(
     host: &mut H,
     clock: &mut C,
     request: &Request,
-    boot: u64,
+    terms: Terms,
 ) -> Reply
     ensures { Reaches (serial_world daemon.old (R.store keeper.old) (hosted H.contents H.failures host.old)
         (C.readings clock.old))
-        (command_of request.now boot) result
+        (command_of request.now terms) result
         (serial_world daemon.new (R.store keeper.new) (hosted H.contents H.failures host.new)
         (C.readings clock.new)) }
 {
-    match router.route(alloc, request, boot) {
+    match router.route(alloc, request, terms) {
         Ok(command) => carry_out(alloc, daemon, keeper, host, clock, command),
-        Err(why) => refused_reply(why),
+        Err(reply) => reply,
     }
 }

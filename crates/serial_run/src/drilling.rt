@@ -16,6 +16,7 @@ use command_words::Pace;
 use host_model::Host;
 use http_front::{Buffer, ByteSink, ByteSource, Clock, Sink};
 use record_keeper::Keeper;
+use rest_json::Terms;
 use size_values::{NoMemory, Seq};
 use std::alloc::Global;
 use workload::{make_stream, summary_of};
@@ -75,11 +76,11 @@ fn answer_all<R: Keeper, H: Host, C: Clock>(
     host: &mut H,
     clock: &mut C,
     service: &mut Service,
-    boot: u64,
+    terms: Terms,
 ) -> SessionEnd
     requires buffer { input.buffer ≡ [] }
     requires empty { replies.old.held ≡ [] }
-    ensures { Answers boot input.source.left
+    ensures { Answers terms input.source.left
         (serial_world service.old (R.store keeper.old) (hosted H.contents H.failures host.old) (C.readings clock.old))
         (serial_world service.new (R.store keeper.new) (hosted H.contents H.failures host.new) (C.readings clock.new))
         replies.new.held result }
@@ -97,7 +98,7 @@ fn answer_all<R: Keeper, H: Host, C: Clock>(
         host,
         clock,
         service,
-        boot,
+        terms,
         Pace::All,
     );
     drop(source);
@@ -150,12 +151,12 @@ fn drill_over<K: Sink, R: Keeper, H: Host, C: Clock>(
     host: &mut H,
     clock: &mut C,
     mut service: Service,
-    boot: u64,
+    terms: Terms,
     seed: u64,
     count: u32,
 ) -> u8
     requires { count ≤ 10000 }
-    ensures { DrillsOver boot (stream_of seed count) result
+    ensures { DrillsOver terms (stream_of seed count) result
         (serial_world service (R.store keeper.old) (hosted H.contents H.failures host.old) (C.readings clock.old))
         (outlet K.held K.failures sink.old) (R.store keeper.new) (hosted H.contents H.failures host.new)
         (C.readings clock.new) (outlet K.held K.failures sink.new) }
@@ -173,7 +174,7 @@ fn drill_over<K: Sink, R: Keeper, H: Host, C: Clock>(
         host,
         clock,
         &mut service,
-        boot,
+        terms,
     );
     let status = tell_drill(alloc, sink, replies.bytes(), &service, ends);
     drop(replies);
@@ -190,23 +191,23 @@ pub fn drill<K: Sink, R: Keeper, H: Host, C: Clock>(
     keeper: &mut R,
     host: &mut H,
     clock: &mut C,
-    boot: u64,
+    terms: Terms,
     seed: u64,
     count: u32,
 ) -> u8
     requires { count ≤ 10000 }
-    ensures done { Drills boot (stream_of seed count) result
+    ensures done { Drills terms (stream_of seed count) result
         (R.store keeper.old) (hosted H.contents H.failures host.old) (C.readings clock.old)
         (outlet K.held K.failures sink.old) (R.store keeper.new) (hosted H.contents H.failures host.new)
         (C.readings clock.new) (outlet K.held K.failures sink.new) }
     // Where something was written, each request was answered as the machine says.
     ensures text { (messages : List RequestValue) → Splits (stream_of seed count) messages ended
-        → (result ≡ 0) ⊎ (result ≡ 5) → DrillsText boot messages result
+        → (result ≡ 0) ⊎ (result ≡ 5) → DrillsText terms messages result
         (R.store keeper.old) (hosted H.contents H.failures host.old) (C.readings clock.old)
         (outlet K.held K.failures sink.old) (R.store keeper.new) (hosted H.contents H.failures host.new)
         (C.readings clock.new) (outlet K.held K.failures sink.new) }
 {
-    drill_from(alloc, sink, keeper, host, clock, boot, seed, count)
+    drill_from(alloc, sink, keeper, host, clock, terms, seed, count)
 }
 
 /// The same without the clause on its text, which follows.
@@ -216,18 +217,20 @@ fn drill_from<K: Sink, R: Keeper, H: Host, C: Clock>(
     keeper: &mut R,
     host: &mut H,
     clock: &mut C,
-    boot: u64,
+    terms: Terms,
     seed: u64,
     count: u32,
 ) -> u8
     requires { count ≤ 10000 }
-    ensures { Drills boot (stream_of seed count) result
+    ensures { Drills terms (stream_of seed count) result
         (R.store keeper.old) (hosted H.contents H.failures host.old) (C.readings clock.old)
         (outlet K.held K.failures sink.old) (R.store keeper.new) (hosted H.contents H.failures host.new)
         (C.readings clock.new) (outlet K.held K.failures sink.new) }
 {
     match Service::new(alloc, keeper) {
-        Ok(service) => drill_over(alloc, sink, keeper, host, clock, service, boot, seed, count),
+        Ok(service) => drill_over(
+            alloc, sink, keeper, host, clock, service, terms, seed, count,
+        ),
         Err(why) => {
             let status = open_status(&why);
             drop(why);

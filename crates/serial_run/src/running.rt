@@ -15,7 +15,7 @@ ghost use Rattle.command_words.specs.declared.run_words.CommandWords.TheVariants
 ghost use Rattle.serial_steps.specs.Steps.{hosted};
 ghost use Rattle.serial_run.specs.Most.{most_requests};
 ghost use Rattle.serial_run.specs.Does.{Does, IsReadyFor};
-ghost use Rattle.serial_run.specs.Runs.{Runs, RunsOver, SessionFrom, boot_with, seen_with};
+ghost use Rattle.serial_run.specs.Runs.{Runs, RunsOver, SessionFrom, terms_with, seen_with};
 ghost use Rattle.serial_run.specs.Inputs.{status_of};
 ghost use Rattle.serial_run.specs.Texts.{RunsText, is_fault};
 ghost use Rattle.serial_run.specs.Worlds.{inlet, outlet, outside, session_world};
@@ -30,6 +30,7 @@ use command_words::{CommandWords, Pace, RunWords, read_words};
 use host_model::Host;
 use http_front::{Buffer, Clock, Sink, Source, StillClock};
 use record_keeper::Keeper;
+use rest_json::{Dialect, Terms};
 use size_values::NoMemory;
 use start_faults::StartFault;
 use std::alloc::Global;
@@ -44,11 +45,11 @@ fn session<S: Source, K: Sink, R: Keeper, H: Host, C: Clock>(
     clock: &mut C,
     mut buffer: Buffer,
     mut service: Service,
-    boot: u64,
+    terms: Terms,
     pace: Pace,
 ) -> SessionEnd
     requires { buffer ≡ [] }
-    ensures { SessionFrom boot pace
+    ensures { SessionFrom terms pace
         (session_world []
         (outside (inlet S.left S.ended S.failures source.old) (outlet K.held K.failures sink.old)
         (R.store keeper.old) (hosted H.contents H.failures host.old) (C.readings clock.old)) service)
@@ -64,7 +65,7 @@ fn session<S: Source, K: Sink, R: Keeper, H: Host, C: Clock>(
         host,
         clock,
         &mut service,
-        boot,
+        terms,
         pace,
     );
     drop(service);
@@ -80,10 +81,10 @@ fn run_over<S: Source, K: Sink, R: Keeper, H: Host, C: Clock>(
     mut keeper: R,
     host: &mut H,
     clock: &mut C,
-    boot: u64,
+    terms: Terms,
     pace: Pace,
 ) -> (u8, R)
-    ensures { RunsOver boot pace
+    ensures { RunsOver terms pace
         (outside (inlet S.left S.ended S.failures source.old) (outlet K.held K.failures sink.old)
         (R.store keeper) (hosted H.contents H.failures host.old) (C.readings clock.old))
         (outside (inlet S.left S.ended S.failures source.new) (outlet K.held K.failures sink.new)
@@ -103,7 +104,7 @@ fn run_over<S: Source, K: Sink, R: Keeper, H: Host, C: Clock>(
                 clock,
                 buffer,
                 service,
-                boot,
+                terms,
                 pace,
             );
             (ends.status(), keeper)
@@ -131,14 +132,19 @@ fn run_said<S: Source, K: Sink, R: Keeper, H: Host, C: Clock>(
         (R.store result.1) (hosted H.contents H.failures host.new) (C.readings clock.new)) result.0 }
 {
     let boot = said.boot.unwrap_or(boot);
+    let terms = Terms {
+        boot,
+        dialect: said.dialect,
+        refuses_origin: false,
+    };
     match said.now {
         Some(moment) => {
             let mut still = StillClock::new(moment);
             run_over(
-                alloc, source, sink, keeper, host, &mut still, boot, said.pace,
+                alloc, source, sink, keeper, host, &mut still, terms, said.pace,
             )
         }
-        None => run_over(alloc, source, sink, keeper, host, clock, boot, said.pace),
+        None => run_over(alloc, source, sink, keeper, host, clock, terms, said.pace),
     }
 }
 
@@ -166,7 +172,12 @@ fn carry_out<S: Source, K: Sink, R: Keeper, H: Host, C: Clock>(
         }
         CommandWords::Make { seed, count } => (make(alloc, sink, seed, count), keeper),
         CommandWords::Drill { seed, count } => {
-            let status = drill(alloc, sink, &mut keeper, host, clock, boot, seed, count);
+            let terms = Terms {
+                boot,
+                dialect: Dialect::Plain,
+                refuses_origin: false,
+            };
+            let status = drill(alloc, sink, &mut keeper, host, clock, terms, seed, count);
             (status, keeper)
         }
         CommandWords::Check => {
@@ -204,7 +215,7 @@ fn run<S: Source, K: Sink, R: Keeper, H: Host, C: Clock>(
 /// and the sink, in which the worker of the server makes the calls of background operations on the
 /// host. `make` writes requests that a number stands for, `drill` answers them in memory and tells
 /// what they came to, and `check` tells what the keeper has. The boot word is that of the ids of
-/// operations, where the words say none. It gives the exit status, and the keeper back.
+/// operations, where the words say none; the words say the dialect. It gives the exit status, and the keeper back.
 pub fn run_main<S: Source, K: Sink, R: Keeper, H: Host, C: Clock>(
     alloc: Global,
     words: &[String],
@@ -225,7 +236,7 @@ pub fn run_main<S: Source, K: Sink, R: Keeper, H: Host, C: Clock>(
     // A run over a source that tells its bytes: a fault, or what these bytes ask.
     ensures text { IfSome (S.left source.old) (λ text. (messages : List Request) (ending : Ending)
         → Splits text messages ending → is_run (map (λ w. string_bytes w) words.now) ≡ true →
-        (is_fault result.0 ≡ true) ⊎ RunsText (boot_with (map (λ w. string_bytes w) words.now) boot)
+        (is_fault result.0 ≡ true) ⊎ RunsText (terms_with (map (λ w. string_bytes w) words.now) boot)
         (pace_of (map (λ w. string_bytes w) words.now)) messages ending result.0
         (seen_with (map (λ w. string_bytes w) words.now)
         (outside (inlet S.left S.ended S.failures source.old) (outlet K.held K.failures sink.old)

@@ -12,6 +12,7 @@ use host_model::Host;
 use http_front::{Clock, Request};
 use record_keeper::Keeper;
 use rest_answers::{PrintedReply, answer_for};
+use rest_json::Terms;
 use rest_routes::{Router, asks_for_server};
 use row_readings::StateRef;
 use serial_steps::{Daemon, SerialDaemon};
@@ -55,7 +56,7 @@ impl Service {
     /// command waits for an operation, the worker makes its steps until that has ended. The clock
     /// is read once for each command that is asked, each call that is asked for and each report. Who
     /// asks for the server is told of it by a text that stands ready.
-    /// The boot word is that of the ids of operations.
+    /// The terms say how the request is read and its reply is printed.
     #[tactic(auto, using(crate::proofs::Answering::asked_by_get))]
     pub fn answer<R: Keeper, H: Host, C: Clock>(
         &mut self,
@@ -64,9 +65,9 @@ impl Service {
         host: &mut H,
         clock: &mut C,
         request: &Request,
-        boot: u64,
+        terms: Terms,
     ) -> PrintedReply
-        ensures { Answers boot
+        ensures { Answers terms
             (serial_world self.old (R.store keeper.old) (hosted H.contents H.failures host.old)
             (C.readings clock.old))
             (serial_world self.new (R.store keeper.new) (hosted H.contents H.failures host.new)
@@ -74,7 +75,7 @@ impl Service {
             request.now result }
     {
         if asks_for_server(request) && !request.last {
-            return tell_of_server(&self.daemon, clock, request);
+            return tell_of_server(&self.daemon, clock, request, terms);
         }
         let reply = reply_to(
             alloc,
@@ -84,9 +85,9 @@ impl Service {
             host,
             clock,
             request,
-            boot,
+            terms,
         );
-        let answered = answer_for(alloc, &reply, boot, request);
+        let answered = answer_for(alloc, &reply, terms, request);
         drop(reply);
         answered
     }

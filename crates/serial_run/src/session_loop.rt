@@ -11,6 +11,7 @@ use command_words::Pace;
 use host_model::Host;
 use http_front::{Buffer, Clock, Sink, Source};
 use record_keeper::Keeper;
+use rest_json::Terms;
 use std::alloc::Global;
 
 /// Where a session stops after the final request, with this many requests answered before it.
@@ -35,10 +36,10 @@ pub fn serve<S: Source, K: Sink, R: Keeper, H: Host, C: Clock>(
     host: &mut H,
     clock: &mut C,
     service: &mut Service,
-    boot: u64,
+    terms: Terms,
     pace: Pace,
 ) -> SessionEnd
-    ensures { Session boot pace
+    ensures { Session terms pace
         (session_world buffer.old
         (outside (inlet S.left S.ended S.failures source.old) (outlet K.held K.failures sink.old)
         (R.store keeper.old) (hosted H.contents H.failures host.old) (C.readings clock.old))
@@ -51,7 +52,7 @@ pub fn serve<S: Source, K: Sink, R: Keeper, H: Host, C: Clock>(
 {
     for done in 0..MOST_REQUESTS {
         match turn(
-            alloc, buffer, source, sink, keeper, host, clock, service, boot, pace,
+            alloc, buffer, source, sink, keeper, host, clock, service, terms, pace,
         ) {
             Turn::GoOn => {}
             Turn::Final => return end_after_final(done),

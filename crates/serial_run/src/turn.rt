@@ -10,6 +10,7 @@ use host_model::Host;
 use http_front::{Buffer, Clock, Got, HeadFault, Request, Sink, SinkFailed, Source, read_request};
 use record_keeper::Keeper;
 use rest_answers::{PrintedReply, no_memory_text, print_malformed};
+use rest_json::Terms;
 use size_values::NoMemory;
 use std::alloc::Global;
 
@@ -85,10 +86,10 @@ pub(crate) fn turn<S: Source, K: Sink, R: Keeper, H: Host, C: Clock>(
     host: &mut H,
     clock: &mut C,
     service: &mut Service,
-    boot: u64,
+    terms: Terms,
     pace: Pace,
 ) -> Turn
-    ensures { Turns boot pace result
+    ensures { Turns terms pace result
         (session_world buffer.old
         (outside (inlet S.left S.ended S.failures source.old) (outlet K.held K.failures sink.old)
         (R.store keeper.old) (hosted H.contents H.failures host.old) (C.readings clock.old))
@@ -100,7 +101,7 @@ pub(crate) fn turn<S: Source, K: Sink, R: Keeper, H: Host, C: Clock>(
 {
     match read_request(alloc, buffer, source) {
         Got::Request(request) => {
-            let answered = service.answer(alloc, keeper, host, clock, &request, boot);
+            let answered = service.answer(alloc, keeper, host, clock, &request, terms);
             let comes = write_answer(sink, &answered, &request);
             drop(answered);
             buffer.reuse(request);

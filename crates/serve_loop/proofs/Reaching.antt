@@ -1,17 +1,12 @@
 -- How what a request asks for comes to its reply, from what the parts ensure.
-use Rattle.std.proofs.Common.{[], refl}
-use Rattle.std.proofs.Common.{inl, inr, Result, Ok}
-use Rattle.size_values.specs.declared.memory.Or.{Or}
-use Rattle.size_values.specs.declared.memory.Or.TheVariants as or
+use Rattle.std.proofs.Common.{◌≡◌, ◌⊎◌, [], refl}
+use Rattle.std.proofs.Common.{inl, inr, Result, Ok, Err}
 use Rattle.http_front.specs.Clocks.{Readings}
 use Rattle.records.specs.declared.commands.Command.{Command}
-use Rattle.records.specs.declared.refusals.Refusal.{Refusal}
 use Rattle.records.specs.declared.replies.Reply.{Reply}
 use Rattle.records.specs.declared.replies.Reply.TheVariants as reply
-use Rattle.gates.specs.core_judging.specs.Judged.{reply_for}
 use Rattle.gates.specs.Gates.{Seen, Walk}
 use Rattle.gates.proofs.Histories.{between-none}
-use Rattle.rest_routes.specs.Answers.{IsDue}
 use Rattle.serve_loop.specs.Replying.{Reaches}
 use Rattle.serve_loop.specs.Waits.{ServeBy, replied, command_world, unasked}
 
@@ -26,7 +21,7 @@ asked_reaches c walk = record {
 }
 
 -- memory was refused before a command was asked
-pub refused_memory : (asks : Result Command Refusal) (s : Seen) (told : Readings)
+pub refused_memory : (asks : Result Command Reply) (s : Seen) (told : Readings)
     → Reaches asks s s told told reply.NoMemory
 refused_memory asks s told = record {
   history = [];
@@ -34,12 +29,11 @@ refused_memory asks s told = record {
   handles = inl (record { nothing = refl; unread = refl; why = inl refl });
 }
 
--- a request that asks for no command
-pub unrouted : (asks : Result Command Refusal) (why : Or Refusal) (s : Seen) (told : Readings) → IsDue why asks
-    → Reaches asks s s told told (reply_for why)
-unrouted asks or.NoMemory s told due = refused_memory asks s told
-unrouted asks (or.Why refusal) s told due = record {
+-- a request that asks for no command, or memory was refused before that was known
+pub unrouted : (asks : Result Command Reply) (said : Reply) (s : Seen) (told : Readings)
+    → (said ≡ reply.NoMemory) ⊎ (asks ≡ Err said) → Reaches asks s s told told said
+unrouted asks said s told why = record {
   history = [];
   gate = between-none s;
-  handles = inl (record { nothing = refl; unread = refl; why = inr (refusal, due, refl) });
+  handles = inl (record { nothing = refl; unread = refl; why = why });
 }

@@ -21,6 +21,7 @@ use Rattle.gates.specs.rest_answers.specs.declared.writing.Written.TheVariants a
 use Rattle.websocket.specs.declared.error.Error.{Error}
 use Rattle.websocket.specs.declared.error.Error.TheVariants as error
 use Rattle.websocket.specs.declared.protocol.frame.header.FrameHeader.{FrameHeader}
+use Rattle.rest_json.specs.declared.terms.Terms.{Terms}
 use Rattle.serve_loop.specs.ClientFrames.{Next, answer_at, answer_text, answer_to, next_in, payload_at, refusal, rest_at}
 use Rattle.serve_loop.specs.ClientFrames.{unfinished, whole}
 use Rattle.serve_loop.specs.Frames.{accepting_head, away_frame, text_frame}
@@ -45,18 +46,18 @@ use Rattle.serve_loop.proofs.Taking.{takes_nothing, takes_twice}
 
 -- ---- along trails
 
-frames_append : (boot : ℕ) (xs ys : List Notice) → frames_of boot (xs ++ ys) ≡ frames_of boot xs ++ frames_of boot ys
-frames_append boot xs ys = flat_map-append (λ n. text_frame (notice_text n boot)) xs ys
+frames_append : (terms : Terms) (xs ys : List Notice) → frames_of terms (xs ++ ys) ≡ frames_of terms xs ++ frames_of terms ys
+frames_append terms xs ys = flat_map-append (λ n. text_frame (notice_text n terms)) xs ys
 
 items_append : (xs ys : List Doing) → items (xs ++ ys) ≡ items xs ++ items ys
 items_append xs ys = flat_map-append item_of xs ys
 
 -- what was owed and then said, and then said again
-owed_along : (boot : ℕ) (owed : List ℕ) (xs ys : List Doing)
-    → owed ++ said_along boot (xs ++ ys) ≡ (owed ++ said_along boot xs) ++ said_along boot ys
-owed_along boot owed xs ys =
-    ap (λ l. owed ++ l) (flat_map-append (said boot) xs ys)
-    ∙ sym (append_assoc owed (said_along boot xs) (said_along boot ys))
+owed_along : (terms : Terms) (owed : List ℕ) (xs ys : List Doing)
+    → owed ++ said_along terms (xs ++ ys) ≡ (owed ++ said_along terms xs) ++ said_along terms ys
+owed_along terms owed xs ys =
+    ap (λ l. owed ++ l) (flat_map-append (said terms) xs ys)
+    ∙ sym (append_assoc owed (said_along terms xs) (said_along terms ys))
 
 between_along : {a b c : Seen} (xs ys : List Doing) → Between (items xs) a b → Between (items ys) b c
     → Between (items (xs ++ ys)) a c
@@ -65,42 +66,42 @@ between_along {a} {b} {c} xs ys first then =
 
 -- ---- one part after another
 
-pub hears_twice : {boot : ℕ} {filter : Filter} {owed : List ℕ} {a b c : EventWorld} → Hears boot filter owed a b
-    → Hears boot filter [] b c → Hears boot filter owed a c
-hears_twice {boot} {filter} {owed} {a} {b} {c} first then = record {
+pub hears_twice : {terms : ℕ} {filter : Filter} {owed : List ℕ} {a b c : EventWorld} → Hears terms filter owed a b
+    → Hears terms filter [] b c → Hears terms filter owed a c
+hears_twice {terms} {filter} {owed} {a} {b} {c} first then = record {
   trail = first.trail ++ then.trail;
   due = chain-append first.due then.due;
   gate = between_along first.trail then.trail first.gate then.gate;
   read = chain-append first.read then.read;
-  sent = subst (Takes a.sink c.sink) (sym (owed_along boot owed first.trail then.trail))
+  sent = subst (Takes a.sink c.sink) (sym (owed_along terms owed first.trail then.trail))
       (takes_twice first.sent then.sent);
 }
 
 -- what was heard, and how it ended then
-pub hears_then : {boot : ℕ} {filter : Filter} {owed : List ℕ} {a b : EventWorld} {source : Feed} {gate : Seen}
-    {sink : Outlet} {ends : SessionEnd} → Hears boot filter owed a b → Leaves boot filter [] b source gate sink ends
-    → Leaves boot filter owed a source gate sink ends
-hears_then {boot} {filter} {owed} {a} {b} {source} {gate} {sink} {ends} first then = record {
+pub hears_then : {terms : ℕ} {filter : Filter} {owed : List ℕ} {a b : EventWorld} {source : Feed} {gate : Seen}
+    {sink : Outlet} {ends : SessionEnd} → Hears terms filter owed a b → Leaves terms filter [] b source gate sink ends
+    → Leaves terms filter owed a source gate sink ends
+hears_then {terms} {filter} {owed} {a} {b} {source} {gate} {sink} {ends} first then = record {
   trail = first.trail ++ then.trail;
   stage = then.stage;
   due = chain-append first.due then.due;
   gate_is = between_along first.trail then.trail first.gate then.gate_is;
   read = chain-append first.read then.read;
-  written = subst (Ends ends then.stage a.sink sink) (sym (owed_along boot owed first.trail then.trail))
-      (ends_after a.sink b.sink sink (owed ++ said_along boot first.trail) (said_along boot then.trail) then.stage ends
+  written = subst (Ends ends then.stage a.sink sink) (sym (owed_along terms owed first.trail then.trail))
+      (ends_after a.sink b.sink sink (owed ++ said_along terms first.trail) (said_along terms then.trail) then.stage ends
       first.sent then.written);
 }
 
-pub none_heard : (boot : ℕ) (filter : Filter) (w : EventWorld) → Hears boot filter [] w w
-none_heard boot filter w =
+pub none_heard : (terms : Terms) (filter : Filter) (w : EventWorld) → Hears terms filter [] w w
+none_heard terms filter w =
     record { trail = []; due = none; gate = between-none w.gate; read = none; sent = takes_nothing w.sink }
 
 -- ---- asking
 
-asks_hears : {boot : ℕ} {filter : Filter} {cursor : ℕ} {held : List ℕ} {f : Fetched} {source : Feed} {a b : Seen}
+asks_hears : {terms : ℕ} {filter : Filter} {cursor : ℕ} {held : List ℕ} {f : Fetched} {source : Feed} {a b : Seen}
     {s : Outlet} {w : EventWorld} → Asks filter cursor (answer.Fetched f) a b
-    → Hears boot filter (fetched_text boot f) (event_world (after_fetched f held) source b s) w
-    → Hears boot filter [] (event_world (asking cursor held) source a s) w
+    → Hears terms filter (fetched_text terms f) (event_world (after_fetched f held) source b s) w
+    → Hears terms filter [] (event_world (asking cursor held) source a s) w
 asks_hears {filter} {cursor} {f} asks h = record {
   trail = at_gate (turn (event.Fetch cursor filter) asks.outcome (answer.Fetched f)) ∷ h.trail;
   due = more (refl, refl) h.due;
@@ -109,10 +110,10 @@ asks_hears {filter} {cursor} {f} asks h = record {
   sent = h.sent;
 }
 
-pub asks_leaves : {boot : ℕ} {filter : Filter} {cursor : ℕ} {held : List ℕ} {f : Fetched} {source source' : Feed}
+pub asks_leaves : {terms : ℕ} {filter : Filter} {cursor : ℕ} {held : List ℕ} {f : Fetched} {source source' : Feed}
     {a b gate : Seen} {s sink : Outlet} {ends : SessionEnd} → Asks filter cursor (answer.Fetched f) a b
-    → Leaves boot filter (fetched_text boot f) (event_world (after_fetched f held) source b s) source' gate sink ends
-    → Leaves boot filter [] (event_world (asking cursor held) source a s) source' gate sink ends
+    → Leaves terms filter (fetched_text terms f) (event_world (after_fetched f held) source b s) source' gate sink ends
+    → Leaves terms filter [] (event_world (asking cursor held) source a s) source' gate sink ends
 asks_leaves {filter} {cursor} {f} asks l = record {
   trail = at_gate (turn (event.Fetch cursor filter) asks.outcome (answer.Fetched f)) ∷ l.trail;
   stage = l.stage;
@@ -122,18 +123,18 @@ asks_leaves {filter} {cursor} {f} asks l = record {
   written = l.written;
 }
 
-pub asks_goes : (boot : ℕ) (filter : Filter) (cursor : ℕ) (held : List ℕ) (f : Fetched) (source : Feed) (a b gate : Seen)
+pub asks_goes : (terms : Terms) (filter : Filter) (cursor : ℕ) (held : List ℕ) (f : Fetched) (source : Feed) (a b gate : Seen)
     (s sink : Outlet) (next : ListenState) → Asks filter cursor (answer.Fetched f) a b
-    → GoesOn boot filter (fetched_text boot f) (event_world (after_fetched f held) source b s) next held source gate sink
-    → GoesOn boot filter [] (event_world (asking cursor held) source a s) next held source gate sink
-asks_goes boot filter cursor held f source a b gate s sink (state.At next) asks goes = asks_hears asks goes
-asks_goes boot filter cursor held f source a b gate s sink (state.Over ends) asks goes = asks_leaves asks goes
+    → GoesOn terms filter (fetched_text terms f) (event_world (after_fetched f held) source b s) next held source gate sink
+    → GoesOn terms filter [] (event_world (asking cursor held) source a s) next held source gate sink
+asks_goes terms filter cursor held f source a b gate s sink (state.At next) asks goes = asks_hears asks goes
+asks_goes terms filter cursor held f source a b gate s sink (state.Over ends) asks goes = asks_leaves asks goes
 
 -- memory was refused, before it was asked or for the answer
-pub asks_refused : (boot : ℕ) (filter : Filter) (cursor : ℕ) (held : List ℕ) (source : Feed) (a b : Seen) (s : Outlet)
+pub asks_refused : (terms : Terms) (filter : Filter) (cursor : ℕ) (held : List ℕ) (source : Feed) (a b : Seen) (s : Outlet)
     → (b ≡ a) ⊎ Asks filter cursor answer.NoMemory a b
-    → Leaves boot filter [] (event_world (asking cursor held) source a s) source b s end.NoMemory
-asks_refused boot filter cursor held source a b s (inl same) = record {
+    → Leaves terms filter [] (event_world (asking cursor held) source a s) source b s end.NoMemory
+asks_refused terms filter cursor held source a b s (inl same) = record {
   trail = [];
   stage = asking cursor held;
   due = none;
@@ -141,7 +142,7 @@ asks_refused boot filter cursor held source a b s (inl same) = record {
   read = none;
   written = front_none s [];
 }
-asks_refused boot filter cursor held source a b s (inr asks) = record {
+asks_refused terms filter cursor held source a b s (inr asks) = record {
   trail = at_gate (turn (event.Fetch cursor filter) asks.outcome answer.NoMemory) ∷ [];
   stage = ended end.NoMemory;
   due = chain-one (refl, refl);
@@ -177,10 +178,10 @@ asks_err cursor given old new filter of (Err e) is t turned idled_is got_none =
 -- ---- idling
 
 -- a session idled, and looks at its source then
-pub idles_on : {boot : ℕ} {filter : Filter} {a b : Seen} {is_up : Bool} (held : List ℕ) (source : Feed) (s : Outlet)
+pub idles_on : {terms : ℕ} {filter : Filter} {a b : Seen} {is_up : Bool} (held : List ℕ) (source : Feed) (s : Outlet)
     (next : ℕ)
     (t : GateIdle is_up a.contents b.contents) → b.turned ≡ a.turned → b.idled ≡ idled_after is_up a.idled
-    → Hears boot filter [] (event_world (idling next held) source a s) (event_world (looking next held) source b s)
+    → Hears terms filter [] (event_world (idling next held) source a s) (event_world (looking next held) source b s)
 idles_on {is_up = is_up} held source s next t turned idled_is = record {
   trail = at_gate (idle is_up t.events) ∷ [];
   due = chain-one refl;
@@ -199,29 +200,29 @@ split_at xs i d within =
     ∙ append_assoc (take i xs) (get_or xs i d ∷ []) (drop (i + 1) xs)
 
 -- the events before one were sent, and of that one a front
-pub front_at : {a b c : Outlet} (boot : ℕ) (xs : List Notice) (i : ℕ) (n : Notice) → i < length xs
-    → n ≡ get_or xs i n → Takes a b (frames_of boot (take i xs))
-    → TakesFront b c (text_frame (notice_text n boot)) → TakesFront a c (frames_of boot xs)
-front_at {a} {b} {c} boot xs i n within is takes front =
+pub front_at : {a b c : Outlet} (terms : Terms) (xs : List Notice) (i : ℕ) (n : Notice) → i < length xs
+    → n ≡ get_or xs i n → Takes a b (frames_of terms (take i xs))
+    → TakesFront b c (text_frame (notice_text n terms)) → TakesFront a c (frames_of terms xs)
+front_at {a} {b} {c} terms xs i n within is takes front =
     subst (TakesFront a c)
-    (sym (ap (frames_of boot) (split_at xs i n within)
-    ∙ frames_append boot (take i xs) (get_or xs i n ∷ drop (i + 1) xs)))
-    (front_after takes (front_more (frames_of boot (drop (i + 1) xs))
-    (subst (λ m. TakesFront b c (text_frame (notice_text m boot))) is front)))
+    (sym (ap (frames_of terms) (split_at xs i n within)
+    ∙ frames_append terms (take i xs) (get_or xs i n ∷ drop (i + 1) xs)))
+    (front_after takes (front_more (frames_of terms (drop (i + 1) xs))
+    (subst (λ m. TakesFront b c (text_frame (notice_text m terms))) is front)))
 
 -- all events of an answer were sent, or some were
-sends_goes : (boot : ℕ) (filter : Filter) (n : Notice) (ns : List Notice) (next : ℕ) (held : List ℕ) (source : Feed)
-    (g : Seen) (s s' : Outlet) (written : Written) → SendsFront written (frames_of boot (n ∷ ns)) s s'
-    → GoesOn boot filter (frames_of boot (n ∷ ns)) (event_world (looking next held) source g s)
+sends_goes : (terms : Terms) (filter : Filter) (n : Notice) (ns : List Notice) (next : ℕ) (held : List ℕ) (source : Feed)
+    (g : Seen) (s s' : Outlet) (written : Written) → SendsFront written (frames_of terms (n ∷ ns)) s s'
+    → GoesOn terms filter (frames_of terms (n ∷ ns)) (event_world (looking next held) source g s)
     (after_sending written (post.Looking next)) held source g s'
-sends_goes boot filter n ns next held source g s s' how.Whole takes = record {
+sends_goes terms filter n ns next held source g s s' how.Whole takes = record {
   trail = [];
   due = none;
   gate = between-none g;
   read = none;
-  sent = subst (Takes s s') (sym (append-nil (frames_of boot (n ∷ ns)))) takes;
+  sent = subst (Takes s s') (sym (append-nil (frames_of terms (n ∷ ns)))) takes;
 }
-sends_goes boot filter n ns next held source g s s' how.WriteFault front = record {
+sends_goes terms filter n ns next held source g s s' how.WriteFault front = record {
   trail = [];
   stage = looking next held;
   due = none;
@@ -229,7 +230,7 @@ sends_goes boot filter n ns next held source g s s' how.WriteFault front = recor
   read = none;
   written = (front_more [] front.0, front.1);
 }
-sends_goes boot filter n ns next held source g s s' how.NoMemory front = record {
+sends_goes terms filter n ns next held source g s s' how.NoMemory front = record {
   trail = [];
   stage = looking next held;
   due = none;
@@ -239,18 +240,18 @@ sends_goes boot filter n ns next held source g s s' how.NoMemory front = record 
 }
 
 -- the same, where there are events
-pub some_sent : (boot : ℕ) (filter : Filter) (ns : List Notice) (next : ℕ) (held : List ℕ) (source : Feed) (g : Seen)
-    (s s' : Outlet) (written : Written) → (length ns == 0) ≡ false → SendsFront written (frames_of boot ns) s s'
-    → GoesOn boot filter (frames_of boot ns) (event_world (after_notices ns next held) source g s)
+pub some_sent : (terms : Terms) (filter : Filter) (ns : List Notice) (next : ℕ) (held : List ℕ) (source : Feed) (g : Seen)
+    (s s' : Outlet) (written : Written) → (length ns == 0) ≡ false → SendsFront written (frames_of terms ns) s s'
+    → GoesOn terms filter (frames_of terms ns) (event_world (after_notices ns next held) source g s)
     (after_sending written (post.Looking next)) held source g s'
-some_sent boot filter [] next held source g s s' written some sends = cc
-some_sent boot filter (n ∷ ns) next held source g s s' written some sends =
-    sends_goes boot filter n ns next held source g s s' written sends
+some_sent terms filter [] next held source g s s' written some sends = cc
+some_sent terms filter (n ∷ ns) next held source g s s' written some sends =
+    sends_goes terms filter n ns next held source g s s' written sends
 
 -- the last text of a session was written, or could not be
-pub closes : {boot : ℕ} {filter : Filter} {source : Feed} {g : Seen} {s s' : Outlet} (text : List ℕ) (ends : SessionEnd)
+pub closes : {terms : ℕ} {filter : Filter} {source : Feed} {g : Seen} {s s' : Outlet} (text : List ℕ) (ends : SessionEnd)
     → ((t : List ℕ) → Takes s s' t → Ends ends (ended ends) s s' t) → (written : Written) → Sends written text s s'
-    → Leaves boot filter text (event_world (ended ends) source g s) source g s' (end_after_sending written ends)
+    → Leaves terms filter text (event_world (ended ends) source g s) source g s' (end_after_sending written ends)
 closes {g} {s} {s'} text ends last how.Whole takes = record {
   trail = [];
   stage = ended ends;
@@ -279,9 +280,9 @@ closes {g} text ends last how.NoMemory same = record {
 -- ---- looking
 
 -- nothing was there
-pub quiet_goes : {boot : ℕ} {filter : Filter} {source source' : Feed} {held held' : List ℕ} (cursor : ℕ) (g : Seen)
+pub quiet_goes : {terms : ℕ} {filter : Filter} {source source' : Feed} {held held' : List ℕ} (cursor : ℕ) (g : Seen)
     (s : Outlet) (l : Looked) → l ≡ shown.Quiet → Looks l source held source' held'
-    → Hears boot filter [] (event_world (looking cursor held) source g s) (event_world (asking cursor held') source' g s)
+    → Hears terms filter [] (event_world (looking cursor held) source g s) (event_world (asking cursor held') source' g s)
 quiet_goes {source} {source'} {held} {held'} cursor g s l is given =
     let looks : Looks shown.Quiet source held source' held' = subst (λ m. Looks m source held source' held') is given in
     record {
@@ -293,9 +294,9 @@ quiet_goes {source} {source'} {held} {held'} cursor g s l is given =
     }
 
 -- some bytes were there
-pub came_goes : {boot : ℕ} {filter : Filter} {source source' : Feed} {held held' : List ℕ} (cursor : ℕ) (g : Seen)
+pub came_goes : {terms : ℕ} {filter : Filter} {source source' : Feed} {held held' : List ℕ} (cursor : ℕ) (g : Seen)
     (s : Outlet) (l : Looked) → l ≡ shown.Came → Looks l source held source' held'
-    → Hears boot filter [] (event_world (looking cursor held) source g s) (event_world (hearing cursor held') source' g s)
+    → Hears terms filter [] (event_world (looking cursor held) source g s) (event_world (hearing cursor held') source' g s)
 came_goes {source} {source'} {held} {held'} cursor g s l is given =
     let looks : Looks shown.Came source held source' held' = subst (λ m. Looks m source held source' held') is given in
     record {
@@ -307,11 +308,11 @@ came_goes {source} {source'} {held} {held'} cursor g s l is given =
     }
 
 -- the source has ended, and the session left
-pub over_leaves : {boot : ℕ} {filter : Filter} {source source' later : Feed} {held : List ℕ} {cursor : ℕ}
+pub over_leaves : {terms : ℕ} {filter : Filter} {source source' later : Feed} {held : List ℕ} {cursor : ℕ}
     {g gate : Seen} {s sink : Outlet} {ends : SessionEnd} (held' : List ℕ) (l : Looked) → l ≡ shown.Over
     → Looks l source held source' held'
-    → Leaves boot filter away_frame (event_world (ended end.Ended) source' g s) later gate sink ends
-    → Leaves boot filter [] (event_world (looking cursor held) source g s) later gate sink ends
+    → Leaves terms filter away_frame (event_world (ended end.Ended) source' g s) later gate sink ends
+    → Leaves terms filter [] (event_world (looking cursor held) source g s) later gate sink ends
 over_leaves {source} {source'} {held} held' l is given leaves =
     let looks : Looks shown.Over source held source' held' = subst (λ m. Looks m source held source' held') is given in
     record {
@@ -324,9 +325,9 @@ over_leaves {source} {source'} {held} held' l is given leaves =
     }
 
 -- the read failed
-pub broken_leaves : {boot : ℕ} {filter : Filter} {source source' : Feed} {held : List ℕ} {cursor : ℕ} (held' : List ℕ)
+pub broken_leaves : {terms : ℕ} {filter : Filter} {source source' : Feed} {held : List ℕ} {cursor : ℕ} (held' : List ℕ)
     (g : Seen) (s : Outlet) (l : Looked) → l ≡ shown.Broken → Looks l source held source' held'
-    → Leaves boot filter [] (event_world (looking cursor held) source g s) source' g s end.ReadFault
+    → Leaves terms filter [] (event_world (looking cursor held) source g s) source' g s end.ReadFault
 broken_leaves {source} {source'} {held} held' g s l is given =
     let looks : Looks shown.Broken source held source' held' = subst (λ m. Looks m source held source' held') is given in
     record {
@@ -339,8 +340,8 @@ broken_leaves {source} {source'} {held} held' g s l is given =
     }
 
 -- memory was refused where a session stood
-pub stays_refused : {boot : ℕ} {filter : Filter} {source : Feed} (w : SessionStage) (g : Seen) (s : Outlet)
-    → Leaves boot filter [] (event_world w source g s) source g s end.NoMemory
+pub stays_refused : {terms : ℕ} {filter : Filter} {source : Feed} (w : SessionStage) (g : Seen) (s : Outlet)
+    → Leaves terms filter [] (event_world w source g s) source g s end.NoMemory
 stays_refused w g s = record {
   trail = [];
   stage = w;
@@ -353,9 +354,9 @@ stays_refused w g s = record {
 -- ---- hearing
 
 -- no frame was whole
-pub unfinished_goes : {boot : ℕ} {filter : Filter} {source : Feed} (held : List ℕ) (cursor : ℕ) (g : Seen) (s : Outlet)
+pub unfinished_goes : {terms : ℕ} {filter : Filter} {source : Feed} (held : List ℕ) (cursor : ℕ) (g : Seen) (s : Outlet)
     → next_in held ≡ unfinished
-    → Hears boot filter [] (event_world (hearing cursor held) source g s) (event_world (asking cursor held) source g s)
+    → Hears terms filter [] (event_world (hearing cursor held) source g s) (event_world (asking cursor held) source g s)
 unfinished_goes held cursor g s is = record {
   trail = heard unfinished ∷ [];
   due = chain-one (sym is, refl);
@@ -364,22 +365,22 @@ unfinished_goes held cursor g s is = record {
   sent = takes_nothing s;
 }
 
-heard_on : {boot : ℕ} {filter : Filter} {source : Feed} {g : Seen} {s s' : Outlet} (next : Next) (held : List ℕ)
+heard_on : {terms : ℕ} {filter : Filter} {source : Feed} {g : Seen} {s s' : Outlet} (next : Next) (held : List ℕ)
     (cursor : ℕ) (stage : SessionStage) → next ≡ next_in held → stage ≡ after_next cursor held next
-    → Takes s s' (said boot (heard next))
-    → Hears boot filter [] (event_world (hearing cursor held) source g s) (event_world stage source g s')
-heard_on {boot} {g} {s} {s'} next held cursor stage is then takes = record {
+    → Takes s s' (said terms (heard next))
+    → Hears terms filter [] (event_world (hearing cursor held) source g s) (event_world stage source g s')
+heard_on {terms} {g} {s} {s'} next held cursor stage is then takes = record {
   trail = heard next ∷ [];
   due = chain-one (is, then);
   gate = between-none g;
   read = chain-one refl;
-  sent = subst (Takes s s') (sym (append-nil (said boot (heard next)))) takes;
+  sent = subst (Takes s s') (sym (append-nil (said terms (heard next)))) takes;
 }
 
-heard_out : {boot : ℕ} {filter : Filter} {source : Feed} {g : Seen} {s s' : Outlet} (next : Next) (held : List ℕ)
+heard_out : {terms : ℕ} {filter : Filter} {source : Feed} {g : Seen} {s s' : Outlet} (next : Next) (held : List ℕ)
     (cursor : ℕ) (ends : SessionEnd) → next ≡ next_in held
-    → Ends ends (after_next cursor held next) s s' (said boot (heard next) ++ [])
-    → Leaves boot filter [] (event_world (hearing cursor held) source g s) source g s' ends
+    → Ends ends (after_next cursor held next) s s' (said terms (heard next) ++ [])
+    → Leaves terms filter [] (event_world (hearing cursor held) source g s) source g s' ends
 heard_out {g} next held cursor ends is written = record {
   trail = heard next ∷ [];
   stage = after_next cursor held next;
@@ -400,41 +401,41 @@ unmade reply.Pong cursor = refl
 unmade (reply.Close code) cursor = refl
 
 -- what stood next was answered so
-answers_goes : (boot : ℕ) (filter : Filter) (source : Feed) (g : Seen) (s s' : Outlet) (next : Next)
+answers_goes : (terms : Terms) (filter : Filter) (source : Feed) (g : Seen) (s s' : Outlet) (next : Next)
     (held held' : List ℕ) (cursor : ℕ) → next ≡ next_in held
     → after_next cursor held next ≡ after_answer cursor (rest_at next held) (answer_at next)
-    → (a : FrameAnswer) → answer_at next ≡ a → (written : Written) → Sends written (said boot (heard next)) s s'
+    → (a : FrameAnswer) → answer_at next ≡ a → (written : Written) → Sends written (said terms (heard next)) s s'
     → KeepsRest written next held held'
-    → GoesOn boot filter [] (event_world (hearing cursor held) source g s) (post_after written a cursor) held' source g s'
-answers_goes boot filter source g s s' next held held' cursor is then reply.Nothing e how.Whole takes rest =
+    → GoesOn terms filter [] (event_world (hearing cursor held) source g s) (post_after written a cursor) held' source g s'
+answers_goes terms filter source g s s' next held held' cursor is then reply.Nothing e how.Whole takes rest =
     heard_on next held cursor (hearing cursor held') is
     (ap (hearing cursor) rest ∙ sym (then ∙ ap (after_answer cursor (rest_at next held)) e)) takes
-answers_goes boot filter source g s s' next held held' cursor is then reply.Pong e how.Whole takes rest =
+answers_goes terms filter source g s s' next held held' cursor is then reply.Pong e how.Whole takes rest =
     heard_on next held cursor (hearing cursor held') is
     (ap (hearing cursor) rest ∙ sym (then ∙ ap (after_answer cursor (rest_at next held)) e)) takes
-answers_goes boot filter source g s s' next held held' cursor is then (reply.Close code) e how.Whole takes rest =
+answers_goes terms filter source g s s' next held held' cursor is then (reply.Close code) e how.Whole takes rest =
     heard_out next held cursor (end.Closed code) is (
       then ∙ ap (after_answer cursor (rest_at next held)) e,
-      subst (Takes s s') (sym (append-nil (said boot (heard next)))) takes,
+      subst (Takes s s') (sym (append-nil (said terms (heard next)))) takes,
     )
-answers_goes boot filter source g s s' next held held' cursor is then a e how.WriteFault breaks rest =
-    subst (λ p. GoesOn boot filter [] (event_world (hearing cursor held) source g s) p held' source g s')
+answers_goes terms filter source g s s' next held held' cursor is then a e how.WriteFault breaks rest =
+    subst (λ p. GoesOn terms filter [] (event_world (hearing cursor held) source g s) p held' source g s')
     (sym (unwritten a cursor))
     (heard_out next held cursor end.WriteFault is (front_more [] (front_broken breaks), breaks.rose))
-answers_goes boot filter source g s s' next held held' cursor is then a e how.NoMemory same rest =
-    subst (λ p. GoesOn boot filter [] (event_world (hearing cursor held) source g s) p held' source g s')
+answers_goes terms filter source g s s' next held held' cursor is then a e how.NoMemory same rest =
+    subst (λ p. GoesOn terms filter [] (event_world (hearing cursor held) source g s) p held' source g s')
     (sym (unmade a cursor))
-    (heard_out next held cursor end.NoMemory is (front_same (said boot (heard next) ++ []) same))
+    (heard_out next held cursor end.NoMemory is (front_same (said terms (heard next) ++ []) same))
 
-pub answered_goes : {s s' : Outlet} {next : Next} {held held' : List ℕ} {cursor : ℕ} {goes : ListenState} (boot : ℕ)
+pub answered_goes : {s s' : Outlet} {next : Next} {held held' : List ℕ} {cursor : ℕ} {goes : ListenState} (terms : Terms)
     (filter : Filter) (source : Feed) (g : Seen) → next ≡ next_in held
     → after_next cursor held next ≡ after_answer cursor (rest_at next held) (answer_at next)
     → Answered next cursor goes held held' s s'
-    → GoesOn boot filter [] (event_world (hearing cursor held) source g s) goes held' source g s'
-answered_goes {s} {s'} {next} {held} {held'} {cursor} {goes} boot filter source g is then answered =
-    subst (λ p. GoesOn boot filter [] (event_world (hearing cursor held) source g s) p held' source g s')
+    → GoesOn terms filter [] (event_world (hearing cursor held) source g s) goes held' source g s'
+answered_goes {s} {s'} {next} {held} {held'} {cursor} {goes} terms filter source g is then answered =
+    subst (λ p. GoesOn terms filter [] (event_world (hearing cursor held) source g s) p held' source g s')
     (sym answered.goes_is)
-    (answers_goes boot filter source g s s' next held held' cursor is then (answer_at next) refl answered.written
+    (answers_goes terms filter source g s s' next held held' cursor is then (answer_at next) refl answered.written
     answered.sends answered.rest)
 
 pub keeps_rest : (written : Written) (next : Next) (held held' : List ℕ) → held' ≡ rest_at next held
@@ -498,38 +499,38 @@ refusal_after error.OutOfMemory cursor held = refl
 -- ---- a whole session
 
 -- the first answer came, the head was written, and then it ended so
-pub session_goes : {boot : ℕ} {key : List ℕ} {filter : Filter} {f : Fetched} {source source' : Feed} {a b gate : Seen}
+pub session_goes : {terms : ℕ} {key : List ℕ} {filter : Filter} {f : Fetched} {source source' : Feed} {a b gate : Seen}
     {s s' sink : Outlet} {ends : SessionEnd} → Asks filter 0 (answer.Fetched f) a b → Takes s s' (accepting_head key)
-    → Leaves boot filter (fetched_text boot f) (event_world (after_fetched f []) source b s') source' gate sink ends
-    → Session boot key filter source a s source' gate sink ends
-session_goes {boot} {key} {filter} {f} {s} {s'} {sink} {ends} asks head l = record {
+    → Leaves terms filter (fetched_text terms f) (event_world (after_fetched f []) source b s') source' gate sink ends
+    → Session terms key filter source a s source' gate sink ends
+session_goes {terms} {key} {filter} {f} {s} {s'} {sink} {ends} asks head l = record {
   trail = at_gate (turn (event.Fetch 0 filter) asks.outcome (answer.Fetched f)) ∷ l.trail;
   stage = l.stage;
   due = more (refl, refl) l.due;
   gate = between-append asks.gate l.gate_is;
   read = more refl l.read;
-  written = ends_after s s' sink (accepting_head key) (fetched_text boot f ++ said_along boot l.trail) l.stage ends head
+  written = ends_after s s' sink (accepting_head key) (fetched_text terms f ++ said_along terms l.trail) l.stage ends head
       l.written;
 }
 
 -- the first answer came, and the head could not be written
-pub session_stops : {boot : ℕ} {key : List ℕ} {filter : Filter} {f : Fetched} {source : Feed} {a b : Seen}
+pub session_stops : {terms : ℕ} {key : List ℕ} {filter : Filter} {f : Fetched} {source : Feed} {a b : Seen}
     {s s' : Outlet} (ends : SessionEnd) → Asks filter 0 (answer.Fetched f) a b
     → ((p : SessionStage) (t : List ℕ) → Ends ends p s s' (accepting_head key ++ t))
-    → Session boot key filter source a s source b s' ends
-session_stops {boot} {filter} {f} ends asks written = record {
+    → Session terms key filter source a s source b s' ends
+session_stops {terms} {filter} {f} ends asks written = record {
   trail = at_gate (turn (event.Fetch 0 filter) asks.outcome (answer.Fetched f)) ∷ [];
   stage = after_fetched f [];
   due = chain-one (refl, refl);
   gate = asks.gate;
   read = chain-one refl;
-  written = written (after_fetched f []) (fetched_text boot f ++ []);
+  written = written (after_fetched f []) (fetched_text terms f ++ []);
 }
 
 -- memory was refused before the first answer, or for it
-pub session_refused : (boot : ℕ) (key : List ℕ) (filter : Filter) (source : Feed) (a b : Seen) (s : Outlet)
-    → (b ≡ a) ⊎ Asks filter 0 answer.NoMemory a b → Session boot key filter source a s source b s end.NoMemory
-session_refused boot key filter source a b s (inl same) = record {
+pub session_refused : (terms : Terms) (key : List ℕ) (filter : Filter) (source : Feed) (a b : Seen) (s : Outlet)
+    → (b ≡ a) ⊎ Asks filter 0 answer.NoMemory a b → Session terms key filter source a s source b s end.NoMemory
+session_refused terms key filter source a b s (inl same) = record {
   trail = [];
   stage = asking 0 [];
   due = none;
@@ -537,7 +538,7 @@ session_refused boot key filter source a b s (inl same) = record {
   read = none;
   written = front_none s [];
 }
-session_refused boot key filter source a b s (inr asks) = record {
+session_refused terms key filter source a b s (inr asks) = record {
   trail = at_gate (turn (event.Fetch 0 filter) asks.outcome answer.NoMemory) ∷ [];
   stage = ended end.NoMemory;
   due = chain-one (refl, refl);

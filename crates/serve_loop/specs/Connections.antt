@@ -1,6 +1,7 @@
 -- A connection: a link, and then a session where a request subscribes to events.
 use Rattle.std.specs.Prelude.{ℕ}
 use Rattle.http_front.specs.Clocks.{Readings}
+use Rattle.rest_json.specs.declared.terms.Terms.{Terms}
 use Rattle.gates.specs.Gates.{Seen}
 use Rattle.gates.specs.rest_answers.specs.Links.{Outlet}
 use Rattle.serve_loop.specs.declared.subscriptions.Subscription.{Subscription}
@@ -19,17 +20,17 @@ IsNoSubscription (end.Events wanted) = ⊥
 IsNoSubscription other = Unit {0}
 
 -- a link that ended at a subscription, and then a session of this subscription
-pub record Subscribes (boot : ℕ) (start : LinkWorld) (source : Feed) (sink : Outlet) (gate : Seen) (clock : Readings)
+pub record Subscribes (terms : Terms) (start : LinkWorld) (source : Feed) (sink : Outlet) (gate : Seen) (clock : Readings)
     (ends : SessionEnd) : Type 0 where
   pub wanted : Subscription
   pub source_between : Feed
   pub sink_between : Outlet
   pub gate_between : Seen
-  pub link : ServingFrom boot start source_between.inlet sink_between gate_between clock (end.Events wanted)
-  pub session : Session boot wanted.key wanted.filter source_between gate_between sink_between source gate sink ends
+  pub link : ServingFrom terms start source_between.inlet sink_between gate_between clock (end.Events wanted)
+  pub session : Session terms wanted.key wanted.filter source_between gate_between sink_between source gate sink ends
 
 -- A connection from this world on, with the outside seen so at its end.
-abbrev pub Connects : ℕ → LinkWorld → Feed → Outlet → Seen → Readings → ConnectionEnd → Type 0
-Connects boot start source sink gate clock (ended.Link ends) =
-    IsNoSubscription ends × ServingFrom boot start source.inlet sink gate clock ends
-Connects boot start source sink gate clock (ended.Session ends) = Subscribes boot start source sink gate clock ends
+abbrev pub Connects : Terms → LinkWorld → Feed → Outlet → Seen → Readings → ConnectionEnd → Type 0
+Connects terms start source sink gate clock (ended.Link ends) =
+    IsNoSubscription ends × ServingFrom terms start source.inlet sink gate clock ends
+Connects terms start source sink gate clock (ended.Session ends) = Subscribes terms start source sink gate clock ends

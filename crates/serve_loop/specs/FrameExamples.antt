@@ -1,5 +1,5 @@
 -- Notices, each with its text.
-use Rattle.std.specs.Prelude.{◌≡◌, ℕ, true, List, [], ◌++◌, codes}
+use Rattle.std.specs.Prelude.{◌≡◌, ℕ, true, false, List, [], ◌++◌, codes}
 use Rattle.size_values.specs.declared.kinds.ObjectKind.TheVariants as kind
 use Rattle.operations.specs.declared.status.Status.TheVariants as status
 use Rattle.operations.specs.declared.operation.OpFault.TheVariants as fault
@@ -7,6 +7,8 @@ use Rattle.records.specs.declared.commands.Target.{Target}
 use Rattle.records.specs.declared.notices.Life.TheVariants as life
 use Rattle.records.specs.declared.notices.Notice.{Notice}
 use Rattle.records.specs.declared.notices.EventBody.TheVariants as body
+use Rattle.rest_json.specs.declared.terms.Dialect.TheVariants.{Plain}
+use Rattle.rest_json.specs.declared.terms.Terms.{Terms}
 use Rattle.rest_replies.specs.Notices.{notice_text}
 
 -- the instance `b`
@@ -53,7 +55,11 @@ accepted_text =
     ++ codes "\"status_code\":105,\"updated_at\":\"1970-01-02T00:00:00Z\"},\"number\":2,\"project\":\"lab\","
     ++ codes "\"timestamp\":\"1970-01-02T00:00:00Z\",\"type\":\"operation\"}"
 
--- each has its text where the boot word is 1
+-- the plain dialect, where the boot word is 1
+abbrev pub example_terms : Terms
+example_terms = record { boot = 1; dialect = Plain; refuses_origin = false }
+
+-- each has its text on these terms
 pub record AreExamples : Type 0 where
-  pub lifecycle : notice_text started 1 ≡ started_text
-  pub operation : notice_text accepted 1 ≡ accepted_text
+  pub lifecycle : notice_text started example_terms ≡ started_text
+  pub operation : notice_text accepted example_terms ≡ accepted_text

@@ -27,9 +27,9 @@ GivesLeave true sink sink' = Takes sink sink' leave_text
 GivesLeave false sink sink' = sink' ≡ sink
 
 -- the same by the message that these bytes begin with, of which maybe not even the head is whole
-pub record GivesLeaveAt (held : List ℕ) (sink sink' : Outlet) : Type 0 where
+pub record GivesLeaveAt (refuses_origin : Bool) (held : List ℕ) (sink sink' : Outlet) : Type 0 where
   pub awaited : Bool
-  pub tells : TellsLeave held awaited
+  pub tells : TellsLeave refuses_origin held awaited
   pub gives : GivesLeave awaited sink sink'
 
 -- leave for a request was given where it awaits it, and then the writing of this text failed
@@ -39,21 +39,21 @@ pub record BreaksReply (request : Request) (text : List ℕ) (sink sink' : Outle
   pub breaks : BreaksOff between sink' text
 
 -- The next message was asked for, and this was answered of it. Before its body was read the sink took leave where that
--- was awaited.
-pub record AsksNext (held : List ℕ) (source : Inlet) (sink : Outlet) (answer : Got) (held' : List ℕ) (source' : Inlet)
+-- was awaited, but for a request that is to be refused for its `Origin`.
+pub record AsksNext (refuses_origin : Bool) (held : List ℕ) (source : Inlet) (sink : Outlet) (answer : Got) (held' : List ℕ) (source' : Inlet)
     (sink' : Outlet) : Type 0 where
   pub asked : ReadsFrom held source answer held' source'
   pub awaited : Bool
-  pub due : LeaveFor answer held' awaited
+  pub due : LeaveFor refuses_origin answer held' awaited
   pub gives : GivesLeave awaited sink sink'
 
 -- A head was read whose client waits for leave, and the writing of leave failed. The head and what came with it is
 -- held, and the source was read only where no message was whole.
-pub record BreaksLeave (held : List ℕ) (source : Inlet) (sink : Outlet) (held' : List ℕ) (source' : Inlet)
+pub record BreaksLeave (refuses_origin : Bool) (held : List ℕ) (source : Inlet) (sink : Outlet) (held' : List ℕ) (source' : Inlet)
     (sink' : Outlet) : Type 0 where
   pub takes : TakesIn held held' source.left source'.left
   pub ahead : ((source' ≡ source) × (held' ≡ held)) ⊎ IsUnfinished held
   pub few : length held' ≤ most_held
   pub later : source.failures ≤ source'.failures
-  pub awaits : AwaitsLeave held'
+  pub awaits : AwaitsLeave refuses_origin held'
   pub breaks : BreaksOff sink sink' leave_text

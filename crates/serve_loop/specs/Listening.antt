@@ -4,6 +4,7 @@ use Rattle.records.specs.declared.notices.Filter.{Filter}
 use Rattle.row_machine.specs.declared.events.Answer.{Answer}
 use Rattle.row_machine.specs.declared.events.Event.TheVariants as event
 use Rattle.row_machine.specs.machine.Step.{Outcome}
+use Rattle.rest_json.specs.declared.terms.Terms.{Terms}
 use Rattle.gates.specs.Chains.{Chain}
 use Rattle.gates.specs.Gates.{Between, Seen}
 use Rattle.gates.specs.History.{turn}
@@ -62,29 +63,29 @@ Looks shown.Over source held later held' = LooksAt source over later × (held' �
 Looks shown.Broken source held later held' = LooksAt source broken later × (held' ≡ held)
 
 -- from one moment to another, this text that was still owed, and then what was said, was written
-pub record Hears (boot : ℕ) (filter : Filter) (owed : List ℕ) (listener later : EventWorld) : Type 0 where
+pub record Hears (terms : Terms) (filter : Filter) (owed : List ℕ) (listener later : EventWorld) : Type 0 where
   pub trail : List Doing
   pub due : Chain (ListenAt filter) trail listener.stage later.stage
   pub gate : Between (items trail) listener.gate later.gate
   pub read : Chain SourceBy trail listener.source later.source
-  pub sent : Takes listener.sink later.sink (owed ++ said_along boot trail)
+  pub sent : Takes listener.sink later.sink (owed ++ said_along terms trail)
 
 -- from this moment on, with this text still owed, a session ended so
-pub record Leaves (boot : ℕ) (filter : Filter) (owed : List ℕ) (listener : EventWorld) (source : Feed) (gate : Seen)
+pub record Leaves (terms : Terms) (filter : Filter) (owed : List ℕ) (listener : EventWorld) (source : Feed) (gate : Seen)
     (sink : Outlet) (ends : SessionEnd) : Type 0 where
   pub trail : List Doing
   pub stage : SessionStage
   pub due : Chain (ListenAt filter) trail listener.stage stage
   pub gate_is : Between (items trail) listener.gate gate
   pub read : Chain SourceBy trail listener.source source
-  pub written : Ends ends stage listener.sink sink (owed ++ said_along boot trail)
+  pub written : Ends ends stage listener.sink sink (owed ++ said_along terms trail)
 
 -- from this moment on, a session goes on, or has ended
-abbrev pub GoesOn : ℕ → Filter → List ℕ → EventWorld → ListenState → List ℕ → Feed → Seen → Outlet → Type 0
-GoesOn boot filter owed listener (state.At next) held source gate sink =
-    Hears boot filter owed listener (event_world (stage_at next held) source gate sink)
-GoesOn boot filter owed listener (state.Over ends) held source gate sink =
-    Leaves boot filter owed listener source gate sink ends
+abbrev pub GoesOn : Terms → Filter → List ℕ → EventWorld → ListenState → List ℕ → Feed → Seen → Outlet → Type 0
+GoesOn terms filter owed listener (state.At next) held source gate sink =
+    Hears terms filter owed listener (event_world (stage_at next held) source gate sink)
+GoesOn terms filter owed listener (state.Over ends) held source gate sink =
+    Leaves terms filter owed listener source gate sink ends
 
 -- what a session has to do next once it has written some text so
 abbrev pub after_sending : Written → SessionPost → ListenState

@@ -1,17 +1,18 @@
 -- A link: its requests are taken one after the other, each comes to its reply at a gate, and then the link ends for one
--- reason. The boot word is that of the ids of operations.
-use Rattle.std.specs.Prelude.{◌≡◌, ◌≢◌, ◌≤◌, ◌⊎◌, ◌++◌, ℕ, List, [], ◌∷◌, Bool, true, false, length, Option, Some, None}
+-- reason. The terms say how requests are read and replies are printed, and whether an `Origin` is refused.
+use Rattle.std.specs.Prelude.{◌≡◌, ◌≢◌, ◌≤◌, ◌⊎◌, ◌++◌, ◌&&◌, ℕ, List, [], ◌∷◌, Bool, true, false, length, Option, Some, None}
 use Rattle.std.specs.Prelude.{Result, Ok}
 use Rattle.http_heads.specs.declared.request.HeadFault.{HeadFault}
+use Rattle.http_heads.specs.declared.request.HeadFault.TheVariants.{H5}
 use Rattle.http_heads.specs.declared.request.Request.{Request}
 use Rattle.http_front.specs.Clocks.{Readings}
 use Rattle.http_front.specs.Held.{most_held}
 use Rattle.http_front.specs.declared.read.Got.{Got}
 use Rattle.http_front.specs.declared.read.Got.TheVariants as got
 use Rattle.records.specs.declared.commands.Command.{Command}
-use Rattle.records.specs.declared.refusals.Refusal.{Refusal}
 use Rattle.records.specs.declared.replies.Reply.{Reply}
 use Rattle.records.specs.declared.replies.Reply.TheVariants as reply
+use Rattle.rest_json.specs.declared.terms.Terms.{Terms}
 use Rattle.gates.specs.Gates.{Between, Seen}
 use Rattle.gates.specs.History.{Item}
 use Rattle.gates.specs.rest_answers.specs.Links.{BreaksOff, Inlet, Outlet, ReadsFrom, Takes}
@@ -38,6 +39,10 @@ pub record Exchange : Type 0 where
   pub history : List Item
   pub reply : Reply
 
+-- requests with an `Origin` are refused on these terms, and this is one
+abbrev pub is_barred : Terms → Request → Bool
+is_barred terms request = terms.refuses_origin && request.origin
+
 -- what a link works on at one moment: the bytes that its buffer holds, its source and its sink, its gate, and what its
 -- clock tells
 pub record LinkWorld : Type 0 where
@@ -60,89 +65,98 @@ pub record KeepsGate (world later : LinkWorld) : Type 0 where
   pub gate : later.gate ≡ world.gate
   pub clock : later.clock ≡ world.clock
 
--- The next request was taken, and what it asks for at the gate came to its reply, after which this session begins, or
--- none.
-pub record ComesTo (boot : ℕ) (session : Option Subscription) (world later : LinkWorld) (exchange : Exchange) : Type 0 where
+-- What stands next has this fault: no request can begin there, or one was taken that is refused for its `Origin` (H5).
+abbrev pub HasFault : Terms → HeadFault → LinkWorld → LinkWorld → Type 0
+HasFault terms fault world later = Asks world later (got.Malformed fault)
+    ⊎ ((request : Request) × Asks world later (got.Request request) × (is_barred terms request ≡ true)
+    × (fault ≡ H5))
+
+-- The next request was taken, is not refused for its `Origin`, and what it asks for at the gate came to its reply, after
+-- which this session begins, or none.
+pub record ComesTo (terms : Terms) (session : Option Subscription) (world later : LinkWorld) (exchange : Exchange) : Type 0 where
   pub asked : Asks world later (got.Request exchange.request)
+  pub welcome : is_barred terms exchange.request ≡ false
   pub begun : begins exchange.request exchange.reply ≡ session
   pub gate : Between exchange.history world.gate later.gate
-  pub handles : Handles (asks_of exchange.request boot) world.clock exchange.history exchange.reply later.clock
+  pub handles : Handles (asks_of exchange.request terms) world.clock exchange.history exchange.reply later.clock
 
 -- The next request was taken, and came to a reply that is to be written.
-abbrev pub CarriesOut : ℕ → LinkWorld → LinkWorld → Exchange → Type 0
-CarriesOut boot world later exchange = ComesTo boot None world later exchange
+abbrev pub CarriesOut : Terms → LinkWorld → LinkWorld → Exchange → Type 0
+CarriesOut terms world later exchange = ComesTo terms None world later exchange
 
 -- The next request was taken, after leave where its client waits for it, and came to its reply, which was written whole.
-pub record Serves (boot : ℕ) (world later : LinkWorld) (exchange : Exchange) : Type 0 where
-  pub carries : CarriesOut boot world later exchange
+pub record Serves (terms : Terms) (world later : LinkWorld) (exchange : Exchange) : Type 0 where
+  pub carries : CarriesOut terms world later exchange
   pub replied : Takes world.sink later.sink
-      (leave_of exchange.request ++ printed exchange.reply boot exchange.request)
+      (leave_of exchange.request ++ printed exchange.reply terms exchange.request)
 
 -- ---- ends
 
 -- What stands next where a link ends before another request was answered whole, and what was done of it: nothing after
--- the end of the source and at a failed read; its reply at a malformed place; a part of a reply or of leave where a
+-- the end of the source and at a failed read; its reply at a fault; a part of a reply or of leave where a
 -- write failed; where memory was refused, no reply is written, after a request was carried out, before, or before any
 -- was read; and at a request after which a session of events begins, only its project was asked for. Leave was given
 -- before, where it was awaited.
-abbrev pub Stops : ℕ → LinkEnd → LinkWorld → LinkWorld → Type 0
-Stops boot end.Ended world later = Asks world later got.End × KeepsGate world later × (later.sink ≡ world.sink)
-Stops boot end.Cut world later = (count : ℕ) × Asks world later (got.Cut count) × KeepsGate world later
-    × GivesLeaveAt later.held world.sink later.sink
-Stops boot (end.Malformed fault) world later = Asks world later (got.Malformed fault) × KeepsGate world later
+abbrev pub Stops : Terms → LinkEnd → LinkWorld → LinkWorld → Type 0
+Stops terms end.Ended world later = Asks world later got.End × KeepsGate world later × (later.sink ≡ world.sink)
+Stops terms end.Cut world later = (count : ℕ) × Asks world later (got.Cut count) × KeepsGate world later
+    × GivesLeaveAt terms.refuses_origin later.held world.sink later.sink
+Stops terms (end.Malformed fault) world later = HasFault terms fault world later × KeepsGate world later
     × Takes world.sink later.sink (malformed_text fault)
-Stops boot end.ReadFault world later =
-    Asks world later got.ReadFault × KeepsGate world later × GivesLeaveAt later.held world.sink later.sink
-Stops boot end.WriteFault world later =
-    ((exchange : Exchange) × CarriesOut boot world later exchange
-    × BreaksReply exchange.request (printed exchange.reply boot exchange.request) world.sink later.sink)
-    ⊎ ((fault : HeadFault) × Asks world later (got.Malformed fault) × KeepsGate world later
+Stops terms end.ReadFault world later =
+    Asks world later got.ReadFault × KeepsGate world later
+    × GivesLeaveAt terms.refuses_origin later.held world.sink later.sink
+Stops terms end.WriteFault world later =
+    ((exchange : Exchange) × CarriesOut terms world later exchange
+    × BreaksReply exchange.request (printed exchange.reply terms exchange.request) world.sink later.sink)
+    ⊎ ((fault : HeadFault) × HasFault terms fault world later × KeepsGate world later
     × BreaksOff world.sink later.sink (malformed_text fault))
-    ⊎ (BreaksLeave world.held world.source world.sink later.held later.source later.sink × KeepsGate world later)
-Stops boot end.NoMemory world later =
+    ⊎ (BreaksLeave terms.refuses_origin world.held world.source world.sink later.held later.source later.sink × KeepsGate world later)
+Stops terms end.NoMemory world later =
     (later ≡ world)
-    ⊎ (Asks world later got.NoMemory × KeepsGate world later × GivesLeaveAt later.held world.sink later.sink)
-    ⊎ ((fault : HeadFault) × Asks world later (got.Malformed fault) × KeepsGate world later × (later.sink ≡ world.sink))
-    ⊎ ((exchange : Exchange) × CarriesOut boot world later exchange
+    ⊎ (Asks world later got.NoMemory × KeepsGate world later
+    × GivesLeaveAt terms.refuses_origin later.held world.sink later.sink)
+    ⊎ ((fault : HeadFault) × HasFault terms fault world later × KeepsGate world later × (later.sink ≡ world.sink))
+    ⊎ ((exchange : Exchange) × CarriesOut terms world later exchange
     × (exchange.reply ≢ reply.NoMemory) × GivesLeave exchange.request.expects world.sink later.sink)
     ⊎ ((request : Request) × Asks world later (got.Request request) × KeepsGate world later
     × GivesLeave request.expects world.sink later.sink)
-Stops boot (end.Events wanted) world later = (exchange : Exchange) × ComesTo boot (Some wanted) world later exchange
+Stops terms (end.Events wanted) world later = (exchange : Exchange) × ComesTo terms (Some wanted) world later exchange
     × GivesLeave exchange.request.expects world.sink later.sink
 
 -- one turn of a link: the next request was answered, or the link ends
-abbrev pub Turns : ℕ → Turn → LinkWorld → LinkWorld → Type 0
-Turns boot turn.GoOn world later =
-    (exchange : Exchange) × Serves boot world later exchange × (exchange.request.last ≡ false)
-Turns boot turn.Final world later =
-    (exchange : Exchange) × Serves boot world later exchange × (exchange.request.last ≡ true)
-Turns boot (turn.Stop ends) world later = Stops boot ends world later
+abbrev pub Turns : Terms → Turn → LinkWorld → LinkWorld → Type 0
+Turns terms turn.GoOn world later =
+    (exchange : Exchange) × Serves terms world later exchange × (exchange.request.last ≡ false)
+Turns terms turn.Final world later =
+    (exchange : Exchange) × Serves terms world later exchange × (exchange.request.last ≡ true)
+Turns terms (turn.Stop ends) world later = Stops terms ends world later
 
 -- ---- a link
 
 -- requests were answered one after the other, and none of them is the last on its connection
-abbrev pub ServesAll : ℕ → LinkWorld → List Exchange → LinkWorld → Type 0
-ServesAll boot world [] later = world ≡ later
-ServesAll boot world (exchange ∷ more) later =
-    (next : LinkWorld) × Serves boot world next exchange × (exchange.request.last ≡ false)
-    × ServesAll boot next more later
+abbrev pub ServesAll : Terms → LinkWorld → List Exchange → LinkWorld → Type 0
+ServesAll terms world [] later = world ≡ later
+ServesAll terms world (exchange ∷ more) later =
+    (next : LinkWorld) × Serves terms world next exchange × (exchange.request.last ≡ false)
+    × ServesAll terms next more later
 
 -- A link from one world to a later one: the requests that it answered whole and after which it went on, the world after
 -- them, and how it ended there: by a final request, which was answered whole and is the last on its connection, or for
 -- another reason.
-pub record Serving (boot : ℕ) (world later : LinkWorld) (ends : LinkEnd) : Type 0 where
+pub record Serving (terms : Terms) (world later : LinkWorld) (ends : LinkEnd) : Type 0 where
   pub exchanges : List Exchange
   pub reached : LinkWorld
-  pub serves : ServesAll boot world exchanges reached
-  pub stops : ((ends ≡ end.Ended) × Turns boot turn.Final reached later) ⊎ Stops boot ends reached later
+  pub serves : ServesAll terms world exchanges reached
+  pub stops : ((ends ≡ end.Ended) × Turns terms turn.Final reached later) ⊎ Stops terms ends reached later
 
 -- A link from this world on, with the outside seen so at its end. What is still to come is what its buffer held, at
 -- most one head, one body and one piece, and what the source has left.
-pub record ServingFrom (boot : ℕ) (start : LinkWorld) (source : Inlet) (sink : Outlet) (gate : Seen) (clock : Readings)
+pub record ServingFrom (terms : Terms) (start : LinkWorld) (source : Inlet) (sink : Outlet) (gate : Seen) (clock : Readings)
     (ends : LinkEnd) : Type 0 where
   pub held : List ℕ
   pub few : length held ≤ most_held
-  pub serving : Serving boot start (link_world held source sink gate clock) ends
+  pub serving : Serving terms start (link_world held source sink gate clock) ends
 
 -- ---- the parts of a turn
 
@@ -153,32 +167,32 @@ turn_after ended.Whole false = turn.GoOn
 turn_after ended.WriteFault last = turn.Stop end.WriteFault
 turn_after ended.NoMemory last = turn.Stop end.NoMemory
 
--- how a link ends at a malformed place, from how the writing of its reply ended
+-- how a link ends at a fault, from how the writing of its reply ended
 abbrev pub end_after : Written → HeadFault → LinkEnd
 end_after ended.Whole fault = end.Malformed fault
 end_after ended.WriteFault fault = end.WriteFault
 end_after ended.NoMemory fault = end.NoMemory
 
 -- this reply to a request was written, whole or not, and so the link goes on
-pub record WritesReply (boot : ℕ) (request : Request) (reply : Reply) (next : Turn) (sink sink' : Outlet) : Type 0 where
+pub record WritesReply (terms : Terms) (request : Request) (reply : Reply) (next : Turn) (sink sink' : Outlet) : Type 0 where
   pub answered : PrintedReply
   pub how : Written
-  pub text : HasText answered reply boot request
+  pub text : HasText answered reply terms request
   pub writes : WritesAnswer how answered request sink sink'
   pub next_is : next ≡ turn_after how request.last
 
 -- what a request asks for was answered, and so the link goes on
-pub record Replies (asks : Result Command Refusal) (boot : ℕ) (request : Request) (next : Turn) (sink sink' : Outlet)
+pub record Replies (asks : Result Command Reply) (terms : Terms) (request : Request) (next : Turn) (sink sink' : Outlet)
     (gate gate' : Seen) (clock clock' : Readings) : Type 0 where
   pub reply : Reply
   pub reaches : Reaches asks gate gate' clock clock' reply
-  pub written : WritesReply boot request reply next sink sink'
+  pub written : WritesReply terms request reply next sink sink'
 
 -- The project of a subscription was asked for, and so its session begins, or the refusal was answered.
-abbrev pub Looks : ℕ → Subscription → Request → Turn → Outlet → Outlet → Seen → Seen → Readings → Readings → Type 0
-Looks boot wanted request next sink sink' gate gate' clock clock' =
+abbrev pub Looks : Terms → Subscription → Request → Turn → Outlet → Outlet → Seen → Seen → Readings → Readings → Type 0
+Looks terms wanted request next sink sink' gate gate' clock clock' =
     (a_reply : Reply) × Reaches (Ok (looked_for wanted)) gate gate' clock clock' a_reply
-    × (((is_refusal a_reply ≡ true) × WritesReply boot request a_reply next sink sink')
+    × (((is_refusal a_reply ≡ true) × WritesReply terms request a_reply next sink sink')
     ⊎ ((is_refusal a_reply ≡ false) × (next ≡ turn.Stop (end.Events wanted)) × (sink' ≡ sink)))
 
 -- what is seen of a sink, of a gate and of a clock is as it was
@@ -189,26 +203,32 @@ pub record Untouched (sink sink' : Outlet) (gate gate' : Seen) (clock clock' : R
 
 -- A request was answered where it subscribes to no events; where it does, its project was asked for; and it stops the
 -- link where memory was refused, and nothing was done of it.
-abbrev pub Meets : ℕ → Request → Turn → Outlet → Outlet → Seen → Seen → Readings → Readings → Type 0
-Meets boot request next sink sink' gate gate' clock clock' =
+abbrev pub Meets : Terms → Request → Turn → Outlet → Outlet → Seen → Seen → Readings → Readings → Type 0
+Meets terms request next sink sink' gate gate' clock clock' =
     ((subscription_of request ≡ None)
-    × Replies (command_of request boot) boot request next sink sink' gate gate' clock clock')
+    × Replies (command_of request terms) terms request next sink sink' gate gate' clock clock')
     ⊎ ((wanted : Subscription) × (subscription_of request ≡ Some wanted)
-    × Looks boot wanted request next sink sink' gate gate' clock clock')
+    × Looks terms wanted request next sink sink' gate gate' clock clock')
     ⊎ ((next ≡ turn.Stop end.NoMemory) × Untouched sink sink' gate gate' clock clock')
 
--- What follows on an answer of `read_request`: its request is answered, or stops the link; a malformed place is
--- answered by its rule; and else the link stops, and nothing is done.
-abbrev pub Follows : ℕ → Got → Turn → Outlet → Outlet → Seen → Seen → Readings → Readings → Type 0
-Follows boot (got.Request request) next sink sink' gate gate' clock clock' =
-    Meets boot request next sink sink' gate gate' clock clock'
-Follows boot got.End next sink sink' gate gate' clock clock' =
-    (next ≡ turn.Stop end.Ended) × Untouched sink sink' gate gate' clock clock'
-Follows boot (got.Cut count) next sink sink' gate gate' clock clock' =
-    (next ≡ turn.Stop end.Cut) × Untouched sink sink' gate gate' clock clock'
-Follows boot (got.Malformed fault) next sink sink' gate gate' clock clock' = (how : Written)
+-- a fault was answered by its rule, and the link ends
+abbrev pub Refuses : HeadFault → Turn → Outlet → Outlet → Seen → Seen → Readings → Readings → Type 0
+Refuses fault next sink sink' gate gate' clock clock' = (how : Written)
     × (next ≡ turn.Stop (end_after how fault)) × RefusesPlace fault how sink sink' × (gate' ≡ gate) × (clock' ≡ clock)
-Follows boot got.ReadFault next sink sink' gate gate' clock clock' =
+
+-- What follows on an answer of `read_request`: its request is refused for its `Origin` (H5), or it is answered, or stops
+-- the link; a malformed place is answered by its rule; and else the link stops, and nothing is done.
+abbrev pub Follows : Terms → Got → Turn → Outlet → Outlet → Seen → Seen → Readings → Readings → Type 0
+Follows terms (got.Request request) next sink sink' gate gate' clock clock' =
+    ((is_barred terms request ≡ false) × Meets terms request next sink sink' gate gate' clock clock')
+    ⊎ ((is_barred terms request ≡ true) × Refuses H5 next sink sink' gate gate' clock clock')
+Follows terms got.End next sink sink' gate gate' clock clock' =
+    (next ≡ turn.Stop end.Ended) × Untouched sink sink' gate gate' clock clock'
+Follows terms (got.Cut count) next sink sink' gate gate' clock clock' =
+    (next ≡ turn.Stop end.Cut) × Untouched sink sink' gate gate' clock clock'
+Follows terms (got.Malformed fault) next sink sink' gate gate' clock clock' =
+    Refuses fault next sink sink' gate gate' clock clock'
+Follows terms got.ReadFault next sink sink' gate gate' clock clock' =
     (next ≡ turn.Stop end.ReadFault) × Untouched sink sink' gate gate' clock clock'
-Follows boot got.NoMemory next sink sink' gate gate' clock clock' =
+Follows terms got.NoMemory next sink sink' gate gate' clock clock' =
     (next ≡ turn.Stop end.NoMemory) × Untouched sink sink' gate gate' clock clock'

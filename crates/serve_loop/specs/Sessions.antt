@@ -12,6 +12,7 @@ use Rattle.row_machine.specs.declared.events.Answer.TheVariants as answer
 use Rattle.row_machine.specs.declared.events.Event.TheVariants as event
 use Rattle.row_machine.specs.declared.events.Fetched.{Fetched}
 use Rattle.row_machine.specs.declared.events.Fetched.TheVariants as fetched
+use Rattle.rest_json.specs.declared.terms.Terms.{Terms}
 use Rattle.gates.specs.Chains.{Chain}
 use Rattle.gates.specs.Gates.{Between, Seen}
 use Rattle.gates.specs.History.{Item, idle, turn}
@@ -108,28 +109,28 @@ SourceBy source (heard next) later = later ≡ source
 -- ---- what is written
 
 -- events as frames, in their order
-abbrev pub frames_of : ℕ → List Notice → List ℕ
-frames_of boot notices = flat_map (λ notice. text_frame (notice_text notice boot)) notices
+abbrev pub frames_of : Terms → List Notice → List ℕ
+frames_of terms notices = flat_map (λ notice. text_frame (notice_text notice terms)) notices
 
 -- each event that was got, or the close of a session that lags
-abbrev pub fetched_text : ℕ → Fetched → List ℕ
-fetched_text boot (fetched.Notices notices next) = frames_of boot notices
-fetched_text boot (fetched.Lagged cursor oldest) = lagged_frame
+abbrev pub fetched_text : Terms → Fetched → List ℕ
+fetched_text terms (fetched.Notices notices next) = frames_of terms notices
+fetched_text terms (fetched.Lagged cursor oldest) = lagged_frame
 
-abbrev pub told_text : ℕ → Answer → List ℕ
-told_text boot (answer.Fetched got) = fetched_text boot got
-told_text boot other = []
+abbrev pub told_text : Terms → Answer → List ℕ
+told_text terms (answer.Fetched got) = fetched_text terms got
+told_text terms other = []
 
 -- What is written for what is done.
-abbrev pub said : ℕ → Doing → List ℕ
-said boot (at_gate (turn event outcome answer)) = told_text boot answer
-said boot (at_gate (idle is_up events)) = []
-said boot (looked over) = away_frame
-said boot (looked other) = []
-said boot (heard next) = answer_text (answer_at next) (payload_at next)
+abbrev pub said : Terms → Doing → List ℕ
+said terms (at_gate (turn event outcome answer)) = told_text terms answer
+said terms (at_gate (idle is_up events)) = []
+said terms (looked over) = away_frame
+said terms (looked other) = []
+said terms (heard next) = answer_text (answer_at next) (payload_at next)
 
-abbrev pub said_along : ℕ → List Doing → List ℕ
-said_along boot trail = flat_map (said boot) trail
+abbrev pub said_along : Terms → List Doing → List ℕ
+said_along terms trail = flat_map (said terms) trail
 
 -- The head, once something was asked.
 abbrev pub head_after : List Doing → List ℕ → List ℕ
@@ -137,8 +138,8 @@ head_after [] key = []
 head_after (doing ∷ more) key = accepting_head key
 
 -- all that is written in a session, by what was done so far
-abbrev pub session_text : ℕ → List ℕ → List Doing → List ℕ
-session_text boot key trail = head_after trail key ++ said_along boot trail
+abbrev pub session_text : Terms → List ℕ → List Doing → List ℕ
+session_text terms key trail = head_after trail key ++ said_along terms trail
 
 -- the sink took some first bytes of this text, and no others
 pub record TakesFront (sink sink' : Outlet) (text : List ℕ) : Type 0 where
@@ -161,13 +162,12 @@ Ends end.ReadFault stage sink sink' text = (stage ≡ ended end.ReadFault) × Ta
 Ends end.WriteFault stage sink sink' text = TakesFront sink sink' text × Rose sink.failures sink'.failures
 Ends end.NoMemory stage sink sink' text = TakesFront sink sink' text
 
--- A session of this key and this filter: what was done, where it stands then, and how it ended there. The boot word is
--- that of the ids of operations.
-pub record Session (boot : ℕ) (key : List ℕ) (filter : Filter) (source : Feed) (before : Seen) (sink : Outlet)
+-- A session of this key and this filter: what was done, where it stands then, and how it ended there.
+pub record Session (terms : Terms) (key : List ℕ) (filter : Filter) (source : Feed) (before : Seen) (sink : Outlet)
     (source' : Feed) (after : Seen) (sink' : Outlet) (ends : SessionEnd) : Type 0 where
   pub trail : List Doing
   pub stage : SessionStage
   pub due : Chain (ListenAt filter) trail (asking 0 []) stage
   pub gate : Between (items trail) before after
   pub read : Chain SourceBy trail source source'
-  pub written : Ends ends stage sink sink' (session_text boot key trail)
+  pub written : Ends ends stage sink sink' (session_text terms key trail)

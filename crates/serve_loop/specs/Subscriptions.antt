@@ -8,6 +8,7 @@ use Rattle.records.specs.declared.commands.What.TheVariants as what
 use Rattle.records.specs.declared.refusals.Refusal.{Refusal}
 use Rattle.records.specs.declared.replies.Reply.{Reply}
 use Rattle.records.specs.declared.replies.Reply.TheVariants as reply
+use Rattle.rest_json.specs.declared.terms.Terms.{Terms}
 use Rattle.rest_routes.specs.Commands.{command_of}
 use Rattle.serve_loop.specs.Filters.{filter_of}
 use Rattle.serve_loop.specs.declared.subscriptions.Subscription.{Subscription}
@@ -38,12 +39,12 @@ looked_for wanted = record {
 }
 
 -- what a request asks for at the gate: what its subscription does, or else its command
-abbrev pub asks_by : Option Subscription → Result Command Refusal → Result Command Refusal
+abbrev pub asks_by : Option Subscription → Result Command Reply → Result Command Reply
 asks_by (Some wanted) other = Ok (looked_for wanted)
 asks_by None other = other
 
-abbrev pub asks_of : Request → ℕ → Result Command Refusal
-asks_of request boot = asks_by (subscription_of request) (command_of request boot)
+abbrev pub asks_of : Request → Terms → Result Command Reply
+asks_of request terms = asks_by (subscription_of request) (command_of request terms)
 
 -- whether a reply refuses what was asked for
 abbrev pub is_refusal : Reply → Bool

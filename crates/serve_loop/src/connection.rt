@@ -11,6 +11,7 @@ use crate::session::{SessionEnd, event_session};
 use crate::subscriptions::Subscription;
 use gates::Gate;
 use http_front::{Clock, Sink, Source};
+use rest_json::Terms;
 use std::alloc::Global;
 use std::sync::Wait;
 
@@ -25,7 +26,7 @@ pub enum ConnectionEnd {
 
 /// Serves a connection: its requests are answered one after the other (`serve_link`), and one that
 /// subscribes to events becomes a session of these (`event_session`), after which the connection
-/// ends. The boot word is that of the ids of operations. The log is told of each request.
+/// ends. The terms say how requests are read and replies are printed. The log is told of each request.
 pub fn serve_connection<T: Wait, G: Gate, S: Source, K: Sink, C: Clock, O: Log>(
     rt: &T,
     alloc: Global,
@@ -33,19 +34,19 @@ pub fn serve_connection<T: Wait, G: Gate, S: Source, K: Sink, C: Clock, O: Log>(
     source: &mut S,
     sink: &mut K,
     clock: &mut C,
-    boot: u64,
+    terms: Terms,
     log: &mut O,
 ) -> ConnectionEnd
-    ensures { Connects boot
+    ensures { Connects terms
         (link_world [] (inlet S.left S.ended S.failures source.old) (outlet K.held K.failures sink.old)
         (seen G.contents G.turned G.idled gate.old) (C.readings clock.old))
         (feed S.left S.ended S.failures S.at_once source.new) (outlet K.held K.failures sink.new)
         (seen G.contents G.turned G.idled gate.new) (C.readings clock.new) result }
 {
-    match serve_link(rt, alloc, gate, source, sink, clock, boot, log) {
+    match serve_link(rt, alloc, gate, source, sink, clock, terms, log) {
         LinkEnd::Events(subscription) => {
             let Subscription { key, filter } = subscription;
-            let ends = event_session(rt, alloc, gate, source, sink, key.view(), &filter, boot);
+            let ends = event_session(rt, alloc, gate, source, sink, key.view(), &filter, terms);
             drop(key);
             drop(filter);
             ConnectionEnd::Session(ends)

@@ -13,6 +13,7 @@ use crate::accepting::accept_text;
 use gates::Written;
 use http_front::{Sink, SinkFailed};
 use records::Notice;
+use rest_json::Terms;
 use rest_replies::print_notice;
 use size_values::NoMemory;
 use std::alloc::Global;
@@ -136,11 +137,11 @@ pub(crate) fn send_head<K: Sink>(alloc: Global, sink: &mut K, key: &str) -> Writ
 }
 
 /// Sends an event.
-fn send_notice<K: Sink>(alloc: Global, sink: &mut K, notice: &Notice, boot: u64) -> Written
-    ensures { Sends result (text_frame (notice_text notice.now boot))
+fn send_notice<K: Sink>(alloc: Global, sink: &mut K, notice: &Notice, terms: Terms) -> Written
+    ensures { Sends result (text_frame (notice_text notice.now terms))
         (outlet K.held K.failures sink.old) (outlet K.held K.failures sink.new) }
 {
-    match print_notice(alloc, notice, boot) {
+    match print_notice(alloc, notice, terms) {
         Ok(text) => {
             let written = send_text(alloc, sink, text.view());
             drop(text);
@@ -155,13 +156,13 @@ pub(crate) fn send_notices<K: Sink>(
     alloc: Global,
     sink: &mut K,
     notices: &[Notice],
-    boot: u64,
+    terms: Terms,
 ) -> Written
-    ensures { SendsFront result (frames_of boot notices.now) (outlet K.held K.failures sink.old)
+    ensures { SendsFront result (frames_of terms notices.now) (outlet K.held K.failures sink.old)
         (outlet K.held K.failures sink.new) }
 {
     'notices: for notice in notices {
-        match send_notice(alloc, sink, notice, boot) {
+        match send_notice(alloc, sink, notice, terms) {
             Written::Whole => {}
             Written::WriteFault => return Written::WriteFault,
             Written::NoMemory => return Written::NoMemory,

@@ -7,6 +7,7 @@ ghost use Rattle.std.specs.Prelude.{List, Some};
 ghost use Rattle.httparse.specs.Spans.{span_bytes};
 ghost use Rattle.websocket.specs.Frame.{IsInside};
 ghost use Rattle.websocket.specs.Mask.{apply_mask_if};
+ghost use Rattle.rest_json.specs.declared.terms.Terms.{Terms as TermsValue};
 ghost use Rattle.serve_loop.specs.ClientFrames.{Next, answer_at, refusal, rest_at, whole};
 ghost use Rattle.serve_loop.specs.Listening.{Answered, GoesOn, event_world, post_after};
 ghost use Rattle.serve_loop.specs.Sessions.{hearing};
@@ -105,7 +106,7 @@ pub(crate) fn hear<K: Sink>(
     held: &mut Vec<u8>,
     cursor: u64,
 ) -> ListenState
-    ensures { (boot : ℕ) (filter : FilterValue) (source : Feed) (gate : Seen) → GoesOn boot filter []
+    ensures { (terms : TermsValue) (filter : FilterValue) (source : Feed) (gate : Seen) → GoesOn terms filter []
         (event_world (hearing cursor held.old.items) source gate (outlet K.held K.failures sink.old)) result
         held.new.items source gate (outlet K.held K.failures sink.new) }
 {

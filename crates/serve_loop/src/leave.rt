@@ -25,21 +25,22 @@ fn give_leave<K: Sink>(sink: &mut K, awaited: bool) -> Result<(), SinkFailed>
 }
 
 /// Takes the next message. Where its client waits for leave to send the body, leave is given once the head was read, and
-/// before the body is.
+/// before the body is; but not to a request that is to be refused for its `Origin`.
 pub(crate) fn next_message<S: Source, K: Sink>(
     alloc: Global,
     buffer: &mut Buffer,
     source: &mut S,
     sink: &mut K,
+    refuses_origin: bool,
 ) -> Result<Got, SinkFailed>
-    ensures ok { IfOk result (λ got. AsksNext buffer.old (inlet S.left S.ended S.failures source.old)
+    ensures ok { IfOk result (λ got. AsksNext refuses_origin buffer.old (inlet S.left S.ended S.failures source.old)
         (outlet K.held K.failures sink.old) got buffer.new (inlet S.left S.ended S.failures source.new)
         (outlet K.held K.failures sink.new)) }
-    ensures err { OnErr result (BreaksLeave buffer.old (inlet S.left S.ended S.failures source.old)
+    ensures err { OnErr result (BreaksLeave refuses_origin buffer.old (inlet S.left S.ended S.failures source.old)
         (outlet K.held K.failures sink.old) buffer.new (inlet S.left S.ended S.failures source.new)
         (outlet K.held K.failures sink.new)) }
 {
-    match awaits_leave(buffer, source) {
+    match awaits_leave(buffer, source, refuses_origin) {
         Ok(awaited) => match give_leave(sink, awaited) {
             Ok(()) => Ok(read_request(alloc, buffer, source)),
             Err(failed) => Err(failed),

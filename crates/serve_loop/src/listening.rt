@@ -5,6 +5,7 @@ ghost use Rattle.gates.specs.Gates.{Seen, seen};
 ghost use Rattle.records.specs.declared.notices.Filter.{Filter as FilterValue};
 ghost use Rattle.gates.specs.rest_answers.specs.Links.{Outlet, outlet};
 ghost use Rattle.row_machine.specs.declared.events.Answer.TheVariants as answer;
+ghost use Rattle.rest_json.specs.declared.terms.Terms.{Terms as TermsValue};
 ghost use Rattle.serve_loop.specs.Listening.{Asks, GoesOn, Leaves, after_sending, end_after_sending, event_world};
 ghost use Rattle.serve_loop.specs.Listening.{stage_at};
 ghost use Rattle.serve_loop.specs.Sessions.{after_fetched, after_notices, asking, fetched_text, frames_of, idling};
@@ -20,6 +21,7 @@ use crate::session::SessionEnd;
 use gates::{Bell, Gate, Written};
 use http_front::{Sink, Source};
 use records::{Filter, Notice};
+use rest_json::Terms;
 use row_machine::{Answer, Event, Fetched};
 use size_values::{NoMemory, Seq};
 use std::alloc::Global;
@@ -97,8 +99,8 @@ pub(crate) fn ask<G: Gate>(
 
 /// Idles once after an answer without events.
 fn idle<G: Gate>(gate: &mut G, next: u64) -> ListenState
-    ensures { (boot : ℕ) (filter : FilterValue) (held : List ℕ) (source : Feed) (sink : Outlet)
-        → GoesOn boot filter [] (event_world (idling next held) source
+    ensures { (terms : TermsValue) (filter : FilterValue) (held : List ℕ) (source : Feed) (sink : Outlet)
+        → GoesOn terms filter [] (event_world (idling next held) source
         (seen G.contents G.turned G.idled gate.old) sink) result held source
         (seen G.contents G.turned G.idled gate.new) sink }
 {
@@ -135,9 +137,9 @@ fn tell<G: Gate, K: Sink>(
     sink: &mut K,
     notices: Seq<Notice>,
     next: u64,
-    boot: u64,
+    terms: Terms,
 ) -> ListenState
-    ensures { (filter : FilterValue) (held : List ℕ) (source : Feed) → GoesOn boot filter (frames_of boot notices)
+    ensures { (filter : FilterValue) (held : List ℕ) (source : Feed) → GoesOn terms filter (frames_of terms notices)
         (event_world (after_notices notices next held) source (seen G.contents G.turned G.idled gate.old)
         (outlet K.held K.failures sink.old)) result held source (seen G.contents G.turned G.idled gate.new)
         (outlet K.held K.failures sink.new) }
@@ -146,14 +148,14 @@ fn tell<G: Gate, K: Sink>(
         drop(notices);
         return idle(gate, next);
     }
-    let written = send_notices(alloc, sink, notices.view(), boot);
+    let written = send_notices(alloc, sink, notices.view(), terms);
     drop(notices);
     after_sending(written, SessionPost::Looking(next))
 }
 
 /// Closes a session that lagged.
 fn close<K: Sink>(alloc: Global, sink: &mut K, cursor: u64, oldest: u64) -> SessionEnd
-    ensures { (boot : ℕ) (filter : FilterValue) (source : Feed) (gate : Seen) → Leaves boot filter lagged_frame
+    ensures { (terms : TermsValue) (filter : FilterValue) (source : Feed) (gate : Seen) → Leaves terms filter lagged_frame
         (event_world (ended (end.Lagged cursor oldest)) source gate (outlet K.held K.failures sink.old)) source gate
         (outlet K.held K.failures sink.new) result }
 {
@@ -167,15 +169,15 @@ pub(crate) fn on_events<G: Gate, K: Sink>(
     gate: &mut G,
     sink: &mut K,
     fetched: Fetched,
-    boot: u64,
+    terms: Terms,
 ) -> ListenState
-    ensures { (filter : FilterValue) (held : List ℕ) (source : Feed) → GoesOn boot filter (fetched_text boot fetched)
+    ensures { (filter : FilterValue) (held : List ℕ) (source : Feed) → GoesOn terms filter (fetched_text terms fetched)
         (event_world (after_fetched fetched held) source (seen G.contents G.turned G.idled gate.old)
         (outlet K.held K.failures sink.old)) result held source (seen G.contents G.turned G.idled gate.new)
         (outlet K.held K.failures sink.new) }
 {
     match fetched {
-        Fetched::Notices(notices, next) => tell(alloc, gate, sink, notices, next, boot),
+        Fetched::Notices(notices, next) => tell(alloc, gate, sink, notices, next, terms),
         Fetched::Lagged { cursor, oldest } => ListenState::Over(close(alloc, sink, cursor, oldest)),
     }
 }
@@ -187,22 +189,22 @@ fn ask_on<G: Gate, K: Sink>(
     sink: &mut K,
     cursor: u64,
     filter: &Filter,
-    boot: u64,
+    terms: Terms,
 ) -> ListenState
-    ensures { (held : List ℕ) (source : Feed) → GoesOn boot filter.now []
+    ensures { (held : List ℕ) (source : Feed) → GoesOn terms filter.now []
         (event_world (asking cursor held) source (seen G.contents G.turned G.idled gate.old)
         (outlet K.held K.failures sink.old)) result held source (seen G.contents G.turned G.idled gate.new)
         (outlet K.held K.failures sink.new) }
 {
     match ask(alloc, gate, cursor, filter) {
-        Ok(fetched) => on_events(alloc, gate, sink, fetched, boot),
+        Ok(fetched) => on_events(alloc, gate, sink, fetched, terms),
         Err(NoMemory) => ListenState::Over(SessionEnd::NoMemory),
     }
 }
 
 /// Closes a session whose source has ended.
 fn leave<K: Sink>(alloc: Global, sink: &mut K) -> SessionEnd
-    ensures { (boot : ℕ) (filter : FilterValue) (source : Feed) (gate : Seen) → Leaves boot filter away_frame
+    ensures { (terms : TermsValue) (filter : FilterValue) (source : Feed) (gate : Seen) → Leaves terms filter away_frame
         (event_world (ended end.Ended) source gate (outlet K.held K.failures sink.old)) source gate
         (outlet K.held K.failures sink.new) result }
 {
@@ -218,7 +220,7 @@ fn look_on<S: Source, K: Sink>(
     held: &mut Vec<u8>,
     cursor: u64,
 ) -> ListenState
-    ensures { (boot : ℕ) (filter : FilterValue) (gate : Seen) → GoesOn boot filter []
+    ensures { (terms : TermsValue) (filter : FilterValue) (gate : Seen) → GoesOn terms filter []
         (event_world (looking cursor held.old.items) (feed S.left S.ended S.failures S.at_once source.old) gate
         (outlet K.held K.failures sink.old)) result held.new.items
         (feed S.left S.ended S.failures S.at_once source.new) gate (outlet K.held K.failures sink.new) }
@@ -241,9 +243,9 @@ fn go_on<G: Gate, S: Source, K: Sink>(
     held: &mut Vec<u8>,
     at: SessionPost,
     filter: &Filter,
-    boot: u64,
+    terms: Terms,
 ) -> ListenState
-    ensures { GoesOn boot filter.now []
+    ensures { GoesOn terms filter.now []
         (event_world (stage_at at held.old.items) (feed S.left S.ended S.failures S.at_once source.old)
         (seen G.contents G.turned G.idled gate.old) (outlet K.held K.failures sink.old)) result held.new.items
         (feed S.left S.ended S.failures S.at_once source.new) (seen G.contents G.turned G.idled gate.new)
@@ -252,7 +254,7 @@ fn go_on<G: Gate, S: Source, K: Sink>(
     match at {
         SessionPost::Looking(cursor) => look_on(alloc, source, sink, held, cursor),
         SessionPost::Hearing(cursor) => hear(alloc, sink, held, cursor),
-        SessionPost::Asking(cursor) => ask_on(alloc, gate, sink, cursor, filter, boot),
+        SessionPost::Asking(cursor) => ask_on(alloc, gate, sink, cursor, filter, terms),
     }
 }
 
@@ -266,9 +268,9 @@ pub(crate) fn listen<T: Wait, G: Gate, S: Source, K: Sink>(
     held: &mut Vec<u8>,
     at: SessionPost,
     filter: &Filter,
-    boot: u64,
+    terms: Terms,
 ) -> SessionEnd
-    ensures { Leaves boot filter.now []
+    ensures { Leaves terms filter.now []
         (event_world (stage_at at held.old.items) (feed S.left S.ended S.failures S.at_once source.old)
         (seen G.contents G.turned G.idled gate.old) (outlet K.held K.failures sink.old))
         (feed S.left S.ended S.failures S.at_once source.new) (seen G.contents G.turned G.idled gate.new)
@@ -276,7 +278,7 @@ pub(crate) fn listen<T: Wait, G: Gate, S: Source, K: Sink>(
 {
     let mut next = at;
     'rounds: for _ in rt.forever() {
-        match go_on(alloc, gate, source, sink, held, next, filter, boot) {
+        match go_on(alloc, gate, source, sink, held, next, filter, terms) {
             ListenState::At(at) => next = at,
             ListenState::Over(ends) => return ends,
         }

@@ -48,7 +48,7 @@ pub(crate) fn rule_in(reply: &Reply) -> Option<Rule> {
     }
 }
 
-/// The rule that a malformed place breaks.
+/// The rule that a fault breaks.
 fn rule_of(fault: HeadFault) -> Rule
     ensures { result ≡ rule_of fault }
 {
@@ -57,6 +57,7 @@ fn rule_of(fault: HeadFault) -> Rule
         HeadFault::H2 => Rule::H2,
         HeadFault::H3 => Rule::H3,
         HeadFault::H4 => Rule::H4,
+        HeadFault::H5 => Rule::H5,
     }
 }
 
@@ -89,7 +90,7 @@ pub(crate) fn code_of(answered: &PrintedReply, request: &Request, written: Writt
     }
 }
 
-/// The code by which a malformed place is answered.
+/// The code by which a fault is answered.
 fn code_at(alloc: Global, fault: HeadFault) -> Option<u16> {
     match print_malformed(alloc, fault) {
         Ok(text) => {
@@ -106,10 +107,11 @@ pub(crate) fn tell_subscribed<O: Log>(log: &mut O, request: &Request) {
     log.answered(Some(request), Some(SWITCHING), None);
 }
 
-/// Tells how a place was answered in which no request can begin.
-pub(crate) fn tell_malformed<O: Log>(
+/// Tells how a fault was answered: that of a request, or of a place in which none can begin.
+pub(crate) fn tell_fault<O: Log>(
     alloc: Global,
     log: &mut O,
+    request: Option<&Request>,
     fault: HeadFault,
     written: Written,
 ) {
@@ -118,7 +120,7 @@ pub(crate) fn tell_malformed<O: Log>(
     } else {
         None
     };
-    log.answered(None, code, Some(rule_of(fault)));
+    log.answered(request, code, Some(rule_of(fault)));
 }
 
 /// Tells of an operation where it ended with this report.

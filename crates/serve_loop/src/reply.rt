@@ -6,9 +6,10 @@ ghost use Rattle.gates.specs.Gates.{seen};
 ghost use Rattle.serve_loop.specs.Replying.{Reaches};
 
 use crate::wait::{ask, wait_of};
-use gates::{Gate, refused_reply};
+use gates::Gate;
 use http_front::{Clock, Request};
 use records::{Command, Reply};
+use rest_json::Terms;
 use rest_routes::Router;
 use size_values::NoMemory;
 use std::alloc::Global;
@@ -44,14 +45,14 @@ pub fn reply_to<T: Wait, G: Gate, C: Clock>(
     gate: &mut G,
     clock: &mut C,
     request: &Request,
-    boot: u64,
+    terms: Terms,
 ) -> Reply
-    ensures { Reaches (command_of request.now boot) (seen G.contents G.turned G.idled gate.old)
+    ensures { Reaches (command_of request.now terms) (seen G.contents G.turned G.idled gate.old)
         (seen G.contents G.turned G.idled gate.new) (C.readings clock.old) (C.readings clock.new)
         result }
 {
-    match router.route(alloc, request, boot) {
+    match router.route(alloc, request, terms) {
         Ok(command) => carry_out(rt, alloc, gate, clock, command),
-        Err(why) => refused_reply(why),
+        Err(reply) => reply,
     }
 }

@@ -11,6 +11,7 @@ use crate::listening::{ListenState, ask, listen, on_events};
 use gates::{Gate, Written};
 use http_front::{Sink, Source};
 use records::Filter;
+use rest_json::Terms;
 use row_machine::Fetched;
 use size_values::NoMemory;
 use std::alloc::Global;
@@ -45,18 +46,18 @@ fn go_on_from<T: Wait, G: Gate, S: Source, K: Sink>(
     sink: &mut K,
     fetched: Fetched,
     filter: &Filter,
-    boot: u64,
+    terms: Terms,
 ) -> SessionEnd
-    ensures { Leaves boot filter.now (fetched_text boot fetched)
+    ensures { Leaves terms filter.now (fetched_text terms fetched)
         (event_world (after_fetched fetched []) (feed S.left S.ended S.failures S.at_once source.old)
         (seen G.contents G.turned G.idled gate.old) (outlet K.held K.failures sink.old))
         (feed S.left S.ended S.failures S.at_once source.new) (seen G.contents G.turned G.idled gate.new)
         (outlet K.held K.failures sink.new) result }
 {
-    match on_events(alloc, gate, sink, fetched, boot) {
+    match on_events(alloc, gate, sink, fetched, terms) {
         ListenState::At(at) => {
             let mut held = Vec::new(alloc);
-            let ends = listen(rt, alloc, gate, source, sink, &mut held, at, filter, boot);
+            let ends = listen(rt, alloc, gate, source, sink, &mut held, at, filter, terms);
             drop(held);
             ends
         }
@@ -72,7 +73,7 @@ fn go_on_from<T: Wait, G: Gate, S: Source, K: Sink>(
 /// pong with the same payload; a close by a close with the same code; what is no frame of a client, or a frame that is
 /// longer than 4,096 bytes, by a close; and others by nothing. It ends after a close; where an event that it has not got
 /// is no longer kept, and where its source has ended, each of which it tells by a close frame; and where its source or
-/// its sink fails. The boot word is that of the ids of operations.
+/// its sink fails.
 pub fn event_session<T: Wait, G: Gate, S: Source, K: Sink>(
     rt: &T,
     alloc: Global,
@@ -81,9 +82,9 @@ pub fn event_session<T: Wait, G: Gate, S: Source, K: Sink>(
     sink: &mut K,
     key: &str,
     filter: &Filter,
-    boot: u64,
+    terms: Terms,
 ) -> SessionEnd
-    ensures { Session boot key.now filter.now (feed S.left S.ended S.failures S.at_once source.old)
+    ensures { Session terms key.now filter.now (feed S.left S.ended S.failures S.at_once source.old)
         (seen G.contents G.turned G.idled gate.old) (outlet K.held K.failures sink.old)
         (feed S.left S.ended S.failures S.at_once source.new) (seen G.contents G.turned G.idled gate.new)
         (outlet K.held K.failures sink.new) result }
@@ -93,7 +94,7 @@ pub fn event_session<T: Wait, G: Gate, S: Source, K: Sink>(
         Err(NoMemory) => return SessionEnd::NoMemory,
     };
     match send_head(alloc, sink, key) {
-        Written::Whole => go_on_from(rt, alloc, gate, source, sink, fetched, filter, boot),
+        Written::Whole => go_on_from(rt, alloc, gate, source, sink, fetched, filter, terms),
         Written::WriteFault => {
             drop(fetched);
             SessionEnd::WriteFault

@@ -4,6 +4,7 @@ use crate::busy::BUSY;
 use host_model::Host;
 use http_front::{Clock, Sink, Source};
 use record_keeper::Keeper;
+use rest_json::Terms;
 use serve_loop::{ConnectionEnd, LockedGate, Log, serve_connection, work};
 use serving::{Job, LockedHost};
 use std::alloc::Global;
@@ -14,7 +15,7 @@ use std::time;
 /// What a server begins beside its other work.
 #[derive(Drop)]
 pub enum ServerJob<S, K, R: Keeper, H: Host, C, L: Ledger, T: Wait + time::Clock, O> {
-    /// A connection, whose requests are answered. The boot word is that of the ids of operations.
+    /// A connection, whose requests are answered on these terms.
     Link {
         rt: T,
         alloc: Global,
@@ -22,7 +23,7 @@ pub enum ServerJob<S, K, R: Keeper, H: Host, C, L: Ledger, T: Wait + time::Clock
         source: S,
         sink: K,
         clock: C,
-        boot: u64,
+        terms: Terms,
         log: O,
     },
     /// Calls of background operations, which are made on the host until the server is closed.
@@ -73,7 +74,7 @@ impl<
                 mut source,
                 mut sink,
                 mut clock,
-                boot,
+                terms,
                 mut log,
             } => {
                 let ends = serve_connection(
@@ -83,7 +84,7 @@ impl<
                     &mut source,
                     &mut sink,
                     &mut clock,
-                    boot,
+                    terms,
                     &mut log,
                 );
                 JobEnd::Link(ends, gate)

@@ -11,6 +11,7 @@ ghost use Rattle.command_words.specs.ServeWords.{serve_setup_of, serve_words_of}
 ghost use Rattle.server_main.specs.Servers.{EndsBy, GivesBack, Serves, ServesAll, at_once_in, connections_of};
 ghost use Rattle.server_main.specs.Servers.{outside};
 
+use crate::door_terms::ServerLogs;
 use crate::jobs::ServerJob;
 use crate::slots::JobSlots;
 use command_words::{ServeWords, read_serve_words};
@@ -49,7 +50,7 @@ fn serve_over<R, H, C, L, T, D, P, O>(
     host: H,
     clock: C,
     boot: u64,
-    log: O,
+    logs: ServerLogs<O>,
     blank: Blank,
 ) -> Result<(), Trouble>
 where
@@ -77,7 +78,7 @@ where
 {
     let tickets = said.at_once + said.workers + 1;
     let slots = JobSlots::<R, H, C, L, T, O>::new(
-        rt, alloc, machine, host, clock, boot, log, tickets, blank,
+        rt, alloc, machine, host, clock, boot, logs, tickets, blank,
     );
     let Ok(mut slots) = slots else {
         return Err(Trouble::NoMemory);
@@ -106,7 +107,7 @@ fn serve_said<R, H, C, L, T, D, P, O>(
     host: H,
     clock: C,
     boot: u64,
-    log: O,
+    logs: ServerLogs<O>,
     blank: Blank,
 ) -> (u8, Option<R>)
 where
@@ -137,7 +138,7 @@ where
         Ok(daemon) => {
             let machine = DaemonMachine::new(alloc, daemon, keeper);
             let served = serve_over::<R, H, C, L, T, D, P, O>(
-                rt, alloc, said, doors, spawner, machine, host, clock, boot, log, blank,
+                rt, alloc, said, doors, spawner, machine, host, clock, boot, logs, blank,
             );
             (status_of(served), None)
         }
@@ -157,7 +158,7 @@ fn serve_any<R, H, C, L, T, D, P, O>(
     host: H,
     clock: C,
     boot: u64,
-    log: O,
+    logs: ServerLogs<O>,
     blank: Blank,
 ) -> (u8, Option<R>)
 where
@@ -187,7 +188,7 @@ where
 {
     match read_serve_words(alloc, words) {
         Ok(Some(said)) => serve_said::<R, H, C, L, T, D, P, O>(
-            rt, alloc, said, doors, spawner, keeper, host, clock, boot, log, blank,
+            rt, alloc, said, doors, spawner, keeper, host, clock, boot, logs, blank,
         ),
         Ok(None) => (StartFault::Words.status(), Some(keeper)),
         Err(NoMemory) => (StartFault::NoMemory.status(), Some(keeper)),
@@ -198,8 +199,10 @@ where
 /// many connections as the words say, or all that there are, each by a job of its own, and so many of
 /// them at once as the words say: others are turned away. It takes in all that it started: links that
 /// have ended as others come, the rest of them at the end, and the workers after the server was
-/// closed. Each job tells a copy of the log. The boot word is that of the ids of operations. It gives
-/// the exit status, and the keeper back where no server was begun.
+/// closed. Each job tells a copy of its log. The links of a port speak the plain dialect and refuse
+/// requests with an `Origin`, those of a socket file speak that of the command `incus`. The boot word
+/// is that of the ids of operations. It gives the exit status, and the keeper back where no server was
+/// begun.
 pub fn serve_main<R, H, C, L, T, D, P, O>(
     rt: T,
     alloc: Global,
@@ -210,7 +213,7 @@ pub fn serve_main<R, H, C, L, T, D, P, O>(
     host: H,
     clock: C,
     boot: u64,
-    log: O,
+    logs: ServerLogs<O>,
     blank: Blank,
 ) -> (u8, Option<R>)
 where
@@ -273,6 +276,6 @@ where
         → (result.0 ≡ 0) ⊎ ((result.0 ≡ 6) ⊎ ((result.0 ≡ 9) ⊎ ((result.0 ≡ 11) ⊎ (result.0 ≡ 12))))) }
 {
     serve_any::<R, H, C, L, T, D, P, O>(
-        rt, alloc, words, doors, spawner, keeper, host, clock, boot, log, blank,
+        rt, alloc, words, doors, spawner, keeper, host, clock, boot, logs, blank,
     )
 }

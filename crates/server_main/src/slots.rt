@@ -1,14 +1,17 @@
 ghost use Rattle.std.specs.Prelude.{◌≡◌, ◌+◌, ◌≤◌, IfOk, OnOk, false, vec_len, vec_capacity};
 ghost use Rattle.serving.specs.Slots.{KeepsSlot};
+ghost use Rattle.server_main.specs.Doors.{log_at, terms_at};
+ghost use Rattle.server_main.specs.Jobs.{ServesBy};
 
 use crate::busy::BUSY;
+use crate::door_terms::{ServerLogs, log_at, terms_at};
 use crate::jobs::{JobEnd, ServerJob};
 use host_model::Host;
 use http_front::{Clock, Sink, Source};
 use record_keeper::Keeper;
 use row_machine::Event;
 use serve_loop::{DaemonMachine, Gate, LockedGate, Log};
-use serving::{Jobs, LockedHost};
+use serving::{Jobs, Link, LockedHost};
 use size_values::NoMemory;
 use std::alloc::Global;
 use std::sync::ledger::{Blank, Ledger};
@@ -17,7 +20,7 @@ use std::time;
 use turnstile::{Ticket, Turnstile};
 
 /// What the jobs of one server share: the gates to the server under its lock that no job has, the host under another
-/// lock, the clock, the boot word of the ids of operations, and the log. Each gate is a slot for a job.
+/// lock, the clock, the boot word of the ids of operations, and the logs. Each gate is a slot for a job.
 #[derive(Drop)]
 pub struct JobSlots<R: Keeper, H, C, L: Ledger, T: Wait + time::Clock, O> {
     rt: T,
@@ -26,7 +29,7 @@ pub struct JobSlots<R: Keeper, H, C, L: Ledger, T: Wait + time::Clock, O> {
     host: LockedHost<H, T>,
     clock: C,
     boot: u64,
-    log: O,
+    logs: ServerLogs<O>,
     /// Whether the server was closed.
     closed: bool,
 }
@@ -57,7 +60,7 @@ impl<
     T: Wait + time::Clock + Copy + Drop,
     O: Log + Copy + Drop,
 > JobSlots<R, H, C, L, T, O> {
-    /// So many slots at this server, over this host and this clock. Each job tells a copy of the log. Where memory is
+    /// So many slots at this server, over this host and this clock. Each job tells a copy of its log. Where memory is
     /// refused, the server and the host are let go.
     pub fn new(
         rt: T,
@@ -66,7 +69,7 @@ impl<
         host: H,
         clock: C,
         boot: u64,
-        log: O,
+        logs: ServerLogs<O>,
         tickets: u32,
         blank: Blank,
     ) -> Result<JobSlots<R, H, C, L, T, O>, NoMemory>
@@ -90,9 +93,29 @@ impl<
             host,
             clock,
             boot,
-            log,
+            logs,
             closed: false,
         })
+    }
+
+    /// The job that serves this link at a gate, on the terms of its door.
+    fn job_of<S: Source + Drop, K: Sink + Drop>(
+        &self,
+        gate: LockedGate<R, L, T>,
+        link: Link<S, K>,
+    ) -> ServerJob<S, K, R, H, C, L, T, O>
+        ensures { ServesBy link.source link.sink (terms_at self.now.boot link.door) (log_at self.now.logs link.door) result }
+    {
+        ServerJob::Link {
+            rt: self.rt,
+            alloc: self.alloc,
+            gate,
+            source: link.source,
+            sink: link.sink,
+            clock: self.clock.twin(),
+            terms: terms_at(self.boot, link.door),
+            log: log_at(self.logs, link.door),
+        }
     }
 }
 
@@ -128,22 +151,17 @@ impl<
     fn link_job(
         &mut self,
         slot: LockedGate<R, L, T>,
-        source: S,
-        sink: K,
+        link: Link<S, K>,
     ) -> ServerJob<S, K, R, H, C, L, T, O> {
-        ServerJob::Link {
-            rt: self.rt,
-            alloc: self.alloc,
-            gate: slot,
-            source,
-            sink,
-            clock: self.clock.twin(),
-            boot: self.boot,
-            log: self.log,
-        }
+        self.job_of(slot, link)
     }
 
-    fn turn_away(&mut self, source: S, mut sink: K) {
+    fn turn_away(&mut self, link: Link<S, K>) {
+        let Link {
+            source,
+            mut sink,
+            ..
+        } = link;
         let _told = sink.write(BUSY);
         drop(source);
     }
@@ -158,7 +176,7 @@ impl<
                 gate: slot,
                 host,
                 clock: self.clock.twin(),
-                log: self.log,
+                log: self.logs.workers,
             }),
             Err(NoMemory) => {
                 self.gates.push_reserved(slot);

@@ -2,6 +2,7 @@ ghost use Rattle.std.specs.Prelude.{◌≡◌, ℕ, ◌+◌, ◌≤◌, Bool, tr
 ghost use Rattle.serving.specs.Slots.{KeepsSlot};
 
 use crate::job::Job;
+use crate::link::Link;
 use size_values::NoMemory;
 
 /// What makes the jobs of a server, and holds what they share. A job is made over a slot, which comes back when the job
@@ -31,14 +32,14 @@ pub trait Jobs<J: Job> {
         ensures closed { closed self.new ≡ closed self.old };
 
     /// The job that serves a link.
-    fn link_job(&mut self, slot: Self::Slot, source: Self::Source, sink: Self::Sink) -> J
+    fn link_job(&mut self, slot: Self::Slot, link: Link<Self::Source, Self::Sink>) -> J
         ensures link { J.link result ≡ true }
         ensures slots { slots self.new ≡ slots self.old }
         ensures room { room self.old ≤ room self.new }
         ensures closed { closed self.new ≡ closed self.old };
 
     /// Tells a link that so many are served that it can't be, and lets it go. It waits for nobody.
-    fn turn_away(&mut self, source: Self::Source, sink: Self::Sink)
+    fn turn_away(&mut self, link: Link<Self::Source, Self::Sink>)
         ensures slots { slots self.new ≡ slots self.old }
         ensures room { room self.old ≤ room self.new }
         ensures closed { closed self.new ≡ closed self.old };

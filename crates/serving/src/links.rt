@@ -143,10 +143,10 @@ fn begin_or_turn_away<J: Job, B: Jobs<J>, P: Spawner<J>>(
 {
     if tasks.len() < at_once {
         let slot = jobs.slot();
-        let job = jobs.link_job(slot, link.source, link.sink);
+        let job = jobs.link_job(slot, link);
         begin(jobs, spawner, tasks, job);
     } else {
-        jobs.turn_away(link.source, link.sink);
+        jobs.turn_away(link);
     }
 }
 

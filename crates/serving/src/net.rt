@@ -1,24 +1,29 @@
 ghost use Rattle.std.specs.Prelude.{◌≡◌, false, IfOk};
 
 use crate::door::{Doors, DoorsFailed};
-use crate::link::Link;
+use crate::link::{DoorKind, Link};
 use crate::net_sink::NetSink;
 use crate::net_source::NetSource;
-use crate::open_door::OpenDoor;
+use crate::open_doors::{Came, OpenDoors};
+use crate::places::{DoorFault, Places};
 use crate::replies::Replies;
 use crate::stop::Stop;
 use mio::Events;
 use size_values::NoMemory;
 use std::alloc::Global;
+use std::fs::Files;
 use std::io::ErrorKind;
 use std::marker::Model;
-use std::net::{Ipv4Addr, Net, SocketAddr, TcpListener, TcpStream};
+use std::net::{Net, SocketAddr, TcpStream};
 use std::time::{Clock, Duration};
 
 /// What is told of doors to a person, and how long they rest after a failure.
 pub trait DoorEvents {
-    /// The doors were opened: they listen, or the port can't be had.
-    fn opened(&mut self, is_listening: bool);
+    /// All doors were opened, and listen.
+    fn opened(&mut self);
+
+    /// This is why none was opened.
+    fn refused(&mut self, fault: DoorFault);
 
     /// A connection could not be accepted, for want of handles or memory, say. The doors try again once this returns,
     /// so it lets some time go by.
@@ -43,23 +48,23 @@ struct Making<N> {
     stop: Stop,
 }
 
-/// Doors over a port, which is listened on from the first accept on. They tell no links. None is left once the server
-/// stops. An accept fails only where the port can't be had.
+/// Doors over a port, a socket file or both, which are listened on from the first accept on. They tell no links. None is
+/// left once the server stops. An accept fails only where one of the places can't be had.
 #[derive(Drop)]
-pub struct NetDoors<N, E> {
+pub struct NetDoors<N: Files + Drop, E> {
     making: Making<N>,
-    address: SocketAddr,
-    door: Option<OpenDoor>,
-    was_opened: bool,
+    /// Where they are, until that was tried.
+    places: Option<Places>,
+    doors: Option<OpenDoors<N>>,
     events: E,
-    /// Room for what is told of the listener.
+    /// Room for what is told of the listeners.
     signs: Events,
     given: u64,
     none_left: bool,
     faults: u64,
 }
 
-impl<N, E> Model for NetDoors<N, E> {
+impl<N: Files + Drop, E> Model for NetDoors<N, E> {
     ghost use Rattle.serving.specs.Accepts.{Seen};
 
     ghost Value = { Seen };
@@ -67,20 +72,20 @@ impl<N, E> Model for NetDoors<N, E> {
     ghost view = { λ d. record { given = d.given; none_left = d.none_left; failed = d.faults } };
 }
 
-impl<N: Net + Drop, E: DoorEvents + Drop> NetDoors<N, E> {
-    /// Doors over this port of 127.0.0.1, which are not open yet. Once the server stops, they give no link any more, and
+impl<N: Net + Files + Drop, E: DoorEvents + Drop> NetDoors<N, E> {
+    /// Doors at these places, which are not open yet. Once the server stops, they give no link any more, and
     /// the sources of the links that they gave end.
     pub fn at(
         net: N,
         alloc: Global,
-        port: u16,
+        places: Places,
         times: LinkTimes,
         stop: Stop,
         events: E,
     ) -> Result<NetDoors<N, E>, NoMemory>
         ensures { IfOk result (λ d. d ≡ record { given = 0; none_left = false; failed = 0 }) }
     {
-        let signs = Events::with_capacity(alloc, 1)?;
+        let signs = Events::with_capacity(alloc, 2)?;
         Ok(NetDoors {
             making: Making {
                 net,
@@ -88,9 +93,8 @@ impl<N: Net + Drop, E: DoorEvents + Drop> NetDoors<N, E> {
                 times,
                 stop,
             },
-            address: SocketAddr::from((Ipv4Addr::LOCALHOST, port)),
-            door: None,
-            was_opened: false,
+            places: Some(places),
+            doors: None,
             events,
             signs,
             given: 0,
@@ -100,26 +104,31 @@ impl<N: Net + Drop, E: DoorEvents + Drop> NetDoors<N, E> {
     }
 }
 
-impl<N: Net, E: DoorEvents> NetDoors<N, E> {
-    /// Where the doors are, once a link was asked for; None where that can't be had.
+impl<N: Net + Files + Copy + Drop, E: DoorEvents> NetDoors<N, E> {
+    /// Where the door at the port is; None where there is none, or that can't be had.
     pub fn address(&mut self) -> Option<SocketAddr>
         ensures { self.new ≡ self.old }
     {
         self.open();
-        match &self.door {
-            Some(door) => door.address(),
+        match &self.doors {
+            Some(doors) => doors.address(),
             None => None,
         }
     }
 
-    /// Listens on the port, where that was not tried yet.
+    /// Listens at the places, where that was not tried yet.
     fn open(&mut self)
         ensures { self.new ≡ self.old }
     {
-        if !self.was_opened {
-            self.was_opened = true;
-            self.door = OpenDoor::at(&self.making.net, self.address).ok();
-            self.events.opened(self.door.is_some());
+        let Some(places) = self.places.take() else {
+            return;
+        };
+        match OpenDoors::at(self.making.net, places) {
+            Ok(doors) => {
+                self.doors = Some(doors);
+                self.events.opened();
+            }
+            Err(fault) => self.events.refused(fault),
         }
     }
 }
@@ -127,7 +136,7 @@ impl<N: Net, E: DoorEvents> NetDoors<N, E> {
 /// The ends of a connection: where its requests come from, and where its replies go.
 type NetLink<N> = Link<NetSource<TcpStream, N>, NetSink<TcpStream>>;
 
-impl<N: Net + Clock + Copy + Drop, E: DoorEvents> Doors for NetDoors<N, E> {
+impl<N: Net + Files + Clock + Copy + Drop, E: DoorEvents> Doors for NetDoors<N, E> {
     type Source = NetSource<TcpStream, N>;
 
     type Sink = NetSink<TcpStream>;
@@ -143,7 +152,7 @@ impl<N: Net + Clock + Copy + Drop, E: DoorEvents> Doors for NetDoors<N, E> {
     ) -> Result<Option<Link<NetSource<TcpStream, N>, NetSink<TcpStream>>>, DoorsFailed> {
         self.open();
         let next = next_link(
-            &mut self.door,
+            &mut self.doors,
             &mut self.signs,
             &self.making,
             &mut self.events,
@@ -154,8 +163,8 @@ impl<N: Net + Clock + Copy + Drop, E: DoorEvents> Doors for NetDoors<N, E> {
             Err(DoorsFailed) => self.faults = self.faults.saturating_add(1),
         }
         if self.none_left {
-            // Who comes now is refused by the system.
-            self.door = None;
+            // Who comes now is refused by the system, and the socket file is gone.
+            self.doors = None;
         }
         next
     }
@@ -170,21 +179,21 @@ impl<N: Net + Clock + Copy + Drop, E: DoorEvents> Doors for NetDoors<N, E> {
 }
 
 /// The next connection, or None once the server stops.
-fn next_link<N: Net + Clock + Copy + Drop, E: DoorEvents>(
-    door: &mut Option<OpenDoor>,
+fn next_link<N: Net + Files + Clock + Copy + Drop, E: DoorEvents>(
+    doors: &mut Option<OpenDoors<N>>,
     signs: &mut Events,
     making: &Making<N>,
     events: &mut E,
 ) -> Result<Option<NetLink<N>>, DoorsFailed> {
-    let Some(door) = door else {
+    let Some(doors) = doors else {
         return Err(DoorsFailed);
     };
     for _ in 0..u64::MAX {
         if making.stop.is_set() {
             return Ok(None);
         }
-        match door.next(signs) {
-            Ok(Some(stream)) => return Ok(link_over(stream, making, events)),
+        match doors.next(signs) {
+            Ok(Some(came)) => return Ok(link_over(came, making, events)),
             Ok(None) => {}
             Err(error) if breaks_off(error.kind()) => {}
             Err(error) => events.failed(error.kind()),
@@ -195,13 +204,16 @@ fn next_link<N: Net + Clock + Copy + Drop, E: DoorEvents>(
 
 /// The two ends of a stream, once a second handle can be had for it; None where the server stops before that.
 fn link_over<N: Net + Clock + Copy + Drop, E: DoorEvents>(
-    stream: TcpStream,
+    came: Came,
     making: &Making<N>,
     events: &mut E,
 ) -> Option<NetLink<N>> {
+    let Came { door, stream } = came;
     // Each reply and each event is one write, which is not to wait for the client's answer to the one
-    // before. Where this can't be had, they are slower.
-    let _at_once = stream.set_nodelay(true);
+    // before. Where this can't be had, they are slower. At a socket file no write waits so.
+    if door == DoorKind::Port {
+        let _at_once = stream.set_nodelay(true);
+    }
     let Handles {
         twin,
         at_source,
@@ -211,6 +223,7 @@ fn link_over<N: Net + Clock + Copy + Drop, E: DoorEvents>(
     } = handles_for(&stream, making, events)?;
     let Making { net, times, .. } = making;
     Some(Link {
+        door,
         source: NetSource::new(twin, times.idle, at_source, *net, replies),
         sink: NetSink::new(stream, times.patience, at_sink, counted),
     })

@@ -140,6 +140,7 @@ fn request(alloc: Global, method: &str, target: &str, want: Want) -> Result<Requ
         last: false,
         expects: false,
         upgrade: key_for(alloc, want)?,
+        origin: false,
     })
 }
 

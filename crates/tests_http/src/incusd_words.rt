@@ -4,7 +4,7 @@ use crate::words::{Kept, is_at, owned};
 use command_words::{ServeWords, read_serve_words, serve_setup_of};
 use std::alloc::Global;
 
-/// What a list of words says: the port, how many connections there are, how many at once, how many workers, after how many
+/// What a list of words says: the port, 0 where none is given; how many connections there are, how many at once, how many workers, after how many
 /// idle seconds a connection is closed, and where rows are kept.
 #[derive(Clone, Copy)]
 struct Serves(u32, Option<u32>, u32, u32, u32, Kept);
@@ -65,6 +65,15 @@ const SAID: &[(&str, Serves)] = &[
     (
         "|--port=1|--idle|3600",
         Serves(1, None, 512, 2, 3_600, Memory),
+    ),
+    ("|--socket=s", Serves(0, None, 512, 2, 60, Memory)),
+    (
+        "|--socket|s|--connections=4|--db=rows",
+        Serves(0, Some(4), 512, 2, 60, Database("rows")),
+    ),
+    (
+        "|--socket=s|--port=8443",
+        Serves(8443, None, 512, 2, 60, Memory),
     ),
 ];
 
@@ -141,6 +150,24 @@ const NOT_READ: &[&str] = &[
     "|--port=8443|--log|true",
     "|--port=8443|--log|--log",
     "|--port=8443|--logs",
+    "|--socket=",
+    "|--socket",
+    "|--socket|-",
+    "|--socket|-x",
+    "|--socket=s|--socket=s",
+    "|--socket=s|--port=0",
+    "|--socket=s|--port=",
+    "|--port=8443|--socket=",
+    "|--sockets=s",
+];
+
+/// Lists of words, and the socket file that they name.
+const SOCKETS: &[(&str, Option<&str>)] = &[
+    ("|--port=8443", None),
+    ("|--socket=s", Some("s")),
+    ("|--socket|/run/incus/unix.socket|--port=1", Some("/run/incus/unix.socket")),
+    ("|--port=1|--socket=-a b=c", Some("-a b=c")),
+    ("|--socket=s|--workers=9", None),
 ];
 
 /// Lists of words, and what the flags say by them: whether the end of standard input stops the server, and whether
@@ -181,7 +208,8 @@ fn are_set(
     let Ok(setup) = serve_setup_of(alloc, words) else {
         return false;
     };
-    let are = (setup.port == port)
+    let given = if port == 0 { None } else { Some(port) };
+    let are = (setup.port == given)
         & is_at(&setup.rows, kept)
         & (setup.idle == idle)
         & (setup.tickets == tickets);
@@ -219,6 +247,25 @@ fn are_said(alloc: Global, words: &str, says: Serves) -> bool {
     say(alloc, words, Some(numbers), port, kept, idle, tickets)
 }
 
+/// Whether the words name this socket file.
+fn is_socket(alloc: Global, words: &str, path: Option<&str>) -> bool {
+    let Ok(words) = owned(alloc, words) else {
+        return false;
+    };
+    let setup = serve_setup_of(alloc, &words);
+    drop(words);
+    let Ok(setup) = setup else {
+        return false;
+    };
+    let is = match (&setup.socket, path) {
+        (Some(socket), Some(path)) => socket.view() == path,
+        (None, None) => true,
+        _ => false,
+    };
+    drop(setup);
+    is
+}
+
 /// What the flags say by these words.
 fn flags(alloc: Global, words: &str) -> Option<(bool, bool)> {
     let words = owned(alloc, words).ok()?;
@@ -237,6 +284,13 @@ fn flags_say_what_stops_the_server_and_whether_it_logs(rt: HostRuntime) {
             flags(rt.alloc(), words) == Some((*stops, *logs)),
             "{words}"
         );
+    }
+}
+
+#[test]
+fn words_name_a_socket_file(rt: HostRuntime) {
+    for (words, path) in SOCKETS {
+        assert!(rt; is_socket(rt.alloc(), words, *path), "{words}");
     }
 }
 

@@ -79,7 +79,7 @@ fn tells(alloc: Global, text: &[u8], wanted: bool, body: usize) -> bool {
         drop(source);
         return false;
     };
-    let told = match awaits_leave(&mut buffer, &mut source) {
+    let told = match awaits_leave(&mut buffer, &mut source, false) {
         Ok(awaited) => awaited == wanted,
         Err(_) => false,
     };
@@ -109,7 +109,7 @@ fn stops(alloc: Global, text: &[u8], cut: u64) -> bool {
         drop(source);
         return false;
     };
-    let is = match awaits_leave(&mut buffer, &mut source) {
+    let is = match awaits_leave(&mut buffer, &mut source, false) {
         Err(Stop::Cut(held)) => held == cut,
         Err(Stop::End) => cut == 0,
         _ => false,

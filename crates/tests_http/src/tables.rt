@@ -1,8 +1,8 @@
 //! Lists of words, each with what it says. Each word stands behind a `|`.
-use crate::tables::Want::{Check, Drill, Full, Make, Plain, Run};
+use crate::tables::Want::{Check, Drill, Full, Make, Plain, Run, Speaks};
 use crate::words::Kept::{Database, Journal, Memory};
 use crate::words::{Kept, is_at, owned};
-use command_words::{CommandWords, Pace, RunWords, read_words, setup_of};
+use command_words::{CommandWords, Dialect, Pace, RunWords, read_words, setup_of};
 use std::alloc::Global;
 
 /// What a list of words says.
@@ -10,6 +10,8 @@ use std::alloc::Global;
 enum Want {
     /// The moment, the pace and the word of the start of a run that names no file and lists no calls.
     Run(Option<u64>, Pace, Option<u64>),
+    /// The dialect of a run of which nothing else is said.
+    Speaks(Dialect),
     /// Where the rows of a run are kept, and which calls of the host and of the keeper fail, and nothing else of it.
     Plain(Kept, &'static [u64], &'static [u64]),
     /// The same of a run with the moment 5, 3 steps and the word 9.
@@ -39,6 +41,10 @@ const SAID: &[(&str, Want)] = &[
         "|run|--now=253402300799",
         Run(Some(253_402_300_799), Pace::All, None),
     ),
+    ("|run|--dialect|plain", Speaks(Dialect::Plain)),
+    ("|run|--dialect=plain", Speaks(Dialect::Plain)),
+    ("|run|--dialect|client", Speaks(Dialect::Client)),
+    ("|run|--dialect=client", Speaks(Dialect::Client)),
     ("|run|--steps|3", Run(None, Pace::Steps(3), None)),
     ("|run|--steps=3", Run(None, Pace::Steps(3), None)),
     ("|run|--steps|0", Run(None, Pace::Steps(0), None)),
@@ -324,6 +330,16 @@ const NOT_READ: &[&str] = &[
     "|run|--boot",
     "|run|--boot=",
     "|run|--boot|",
+    "|run|--dialect",
+    "|run|--dialect=",
+    "|run|--dialect|",
+    "|run|--dialect=Client",
+    "|run|--dialect|plain,client",
+    "|run|--dialect=client|--dialect=client",
+    "|--dialect=client|run",
+    "|make|7|40|--dialect=client",
+    "|drill|7|40|--dialect|client",
+    "|check|--dialect=plain",
     "|run|--fail-host",
     "|run|--fail-host=",
     "|run|--fail-host|",
@@ -460,6 +476,7 @@ const PLAIN: RunWords = RunWords {
     now: None,
     pace: Pace::All,
     boot: None,
+    dialect: Dialect::Plain,
 };
 
 /// What is said by all of the options of `run` that say how it runs.
@@ -467,12 +484,24 @@ const FULL: RunWords = RunWords {
     now: Some(5),
     pace: Pace::Steps(3),
     boot: Some(9),
+    dialect: Dialect::Plain,
 };
 
 fn are_said(alloc: Global, words: &str, want: Want) -> bool {
     match want {
         Run(now, pace, boot) => {
-            say_run(alloc, words, RunWords { now, pace, boot }, Memory, &[], &[])
+            let dialect = Dialect::Plain;
+            let run = RunWords {
+                now,
+                pace,
+                boot,
+                dialect,
+            };
+            say_run(alloc, words, run, Memory, &[], &[])
+        }
+        Speaks(dialect) => {
+            let run = RunWords { dialect, ..PLAIN };
+            say_run(alloc, words, run, Memory, &[], &[])
         }
         Plain(kept, host, keeper) => say_run(alloc, words, PLAIN, kept, host, keeper),
         Full(kept, host, keeper) => say_run(alloc, words, FULL, kept, host, keeper),

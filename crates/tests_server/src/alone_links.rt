@@ -1,10 +1,11 @@
 //! Links and a worker over a gate of one's own.
 ghost use Rattle.std.specs.Prelude.{◌≤◌};
 
-use crate::links::{OwnGate, TWICE, TWICE_REPLIES, is_served, new_gate};
+use crate::links::{OwnGate, SOCKET, TCP, TWICE, TWICE_REPLIES, is_served, is_served_on, new_gate};
 use crate::server::{Said, said_by};
 use host_model::ModelHost;
 use http_front::StillClock;
+use rest_json::Terms;
 use row_machine::Event;
 use serve_loop::{Gate, NoLog, work};
 use size_values::Seq;
@@ -91,6 +92,61 @@ const LINKS: &[(&str, &str, &str)] = &[
     ("", "ended", ""),
 ];
 
+/// A project that a page in a browser makes, and a request after it.
+const PAGE: &str =
+    "POST /1.0/projects HTTP/1.1\r\nHost: localhost\r\nOrigin: http://page.example\r\nContent-Type: text/plain\r\nContent-Length: 14\r\n\r\n{\"name\":\"lab\"}GET /1.0/projects HTTP/1.1\r\nHost: localhost\r\n\r\n";
+
+/// A project, and then a request of a page.
+const PAGE_BEHIND: &str =
+    "POST /1.0/projects HTTP/1.1\r\nHost: localhost\r\nContent-Length: 14\r\n\r\n{\"name\":\"lab\"}GET /1.0 HTTP/1.1\r\nHost: localhost\r\norigin: null\r\n\r\n";
+
+/// A project that a page makes, whose client waits for leave.
+const PAGE_AWAITING: &str =
+    "POST /1.0/projects HTTP/1.1\r\nHost: localhost\r\nORIGIN: http://page.example\r\nExpect: 100-continue\r\nContent-Length: 14\r\n\r\n{\"name\":\"lab\"}";
+
+/// A subscription of a page to events.
+const PAGE_LISTENING: &str =
+    "GET /1.0/events HTTP/1.1\r\nHost: localhost\r\nOrigin: http://page.example\r\nUpgrade: websocket\r\nConnection: Upgrade\r\nSec-WebSocket-Version: 13\r\nSec-WebSocket-Key: dGhlIHNhbXBsZSBub25jZQ==\r\n\r\n";
+
+/// A request of a page whose length is malformed.
+const PAGE_MALFORMED: &str =
+    "GET /1.0 HTTP/1.1\r\nHost: localhost\r\nOrigin: http://page.example\r\nContent-Length: no\r\n\r\n";
+
+/// A page asks for the projects.
+const PAGE_READING: &str =
+    "GET /1.0/projects HTTP/1.1\r\nHost: localhost\r\nOrigin: http://page.example\r\n\r\n";
+
+/// The projects.
+const PROJECTS: &str = "GET /1.0/projects HTTP/1.1\r\nHost: localhost\r\n\r\n";
+
+const ORIGIN_REPLY: &str =
+    "HTTP/1.1 403 Forbidden\r\nContent-Type: application/json\r\nContent-Length: 90\r\nConnection: close\r\n\r\n{\"error\":\"origin is not allowed\",\"error_code\":403,\"metadata\":{\"rule\":\"H5\"},\"type\":\"error\"}";
+
+const ORIGIN_BEHIND_REPLIES: &str =
+    "HTTP/1.1 200 OK\r\nContent-Type: application/json\r\nContent-Length: 66\r\n\r\n{\"metadata\":{},\"status\":\"Success\",\"status_code\":200,\"type\":\"sync\"}HTTP/1.1 403 Forbidden\r\nContent-Type: application/json\r\nContent-Length: 90\r\nConnection: close\r\n\r\n{\"error\":\"origin is not allowed\",\"error_code\":403,\"metadata\":{\"rule\":\"H5\"},\"type\":\"error\"}";
+
+const LENGTH_REPLY: &str =
+    "HTTP/1.1 400 Bad Request\r\nContent-Type: application/json\r\nContent-Length: 88\r\nConnection: close\r\n\r\n{\"error\":\"length is malformed\",\"error_code\":400,\"metadata\":{\"rule\":\"H3\"},\"type\":\"error\"}";
+
+const PROJECTS_REPLY: &str =
+    "HTTP/1.1 200 OK\r\nContent-Type: application/json\r\nContent-Length: 89\r\n\r\n{\"metadata\":[\"/1.0/projects/default\"],\"status\":\"Success\",\"status_code\":200,\"type\":\"sync\"}";
+
+const AWAITED_REPLIES: &str =
+    "HTTP/1.1 100 Continue\r\n\r\nHTTP/1.1 200 OK\r\nContent-Type: application/json\r\nContent-Length: 83\r\n\r\n{\"metadata\":{\"status_code\":200},\"status\":\"Success\",\"status_code\":200,\"type\":\"sync\"}";
+
+/// The terms of a link, its bytes, how it ends, and its replies: a page in a browser is refused over TCP, and its
+/// requests are as any others over a socket file.
+const PAGES: &[(Terms, &str, &str, &str)] = &[
+    (TCP, PAGE, "malformed", ORIGIN_REPLY),
+    (TCP, PAGE_BEHIND, "malformed", ORIGIN_BEHIND_REPLIES),
+    (TCP, PAGE_AWAITING, "malformed", ORIGIN_REPLY),
+    (TCP, PAGE_LISTENING, "malformed", ORIGIN_REPLY),
+    (TCP, PAGE_MALFORMED, "malformed", LENGTH_REPLY),
+    (SOCKET, PAGE_READING, "ended", PROJECTS_REPLY),
+    (SOCKET, PAGE_AWAITING, "ended", AWAITED_REPLIES),
+    (SOCKET, PAGE_LISTENING, "events", ""),
+];
+
 /// Whether a link over a new server ends so and has these replies, where at most `piece` of its bytes come at each
 /// read.
 fn is_served_anew<T: Wait>(
@@ -109,6 +165,47 @@ fn is_served_anew<T: Wait>(
     let is_so = is_served(rt, alloc, &mut gate, text, piece, ends, replies);
     drop(gate);
     is_so
+}
+
+/// Whether a link on these terms over a new server ends so and has these replies.
+fn is_served_new<T: Wait>(
+    rt: &T,
+    alloc: Global,
+    terms: Terms,
+    text: &str,
+    ends: &str,
+    replies: &str,
+) -> bool {
+    let Some(mut gate) = new_gate(alloc) else {
+        return false;
+    };
+    let is_so = is_served_on(rt, alloc, terms, &mut gate, text, 100, ends, replies);
+    drop(gate);
+    is_so
+}
+
+#[test]
+fn pages_are_refused_over_tcp(rt: HostRuntime) {
+    for (terms, text, ends, replies) in PAGES {
+        let is_so = is_served_new(&rt, rt.alloc(), *terms, text, ends, replies);
+        assert!(rt; is_so, "{text}");
+    }
+}
+
+/// Whether a page's request changes nothing: the projects are those of before.
+fn is_untouched<T: Wait>(rt: &T, alloc: Global) -> bool {
+    let Some(mut gate) = new_gate(alloc) else {
+        return false;
+    };
+    let refused = is_served(rt, alloc, &mut gate, PAGE, 100, "malformed", ORIGIN_REPLY);
+    let same = is_served(rt, alloc, &mut gate, PROJECTS, 100, "ended", PROJECTS_REPLY);
+    drop(gate);
+    refused && same
+}
+
+#[test]
+fn a_page_changes_nothing(rt: HostRuntime) {
+    assert!(rt; is_untouched(&rt, rt.alloc()));
 }
 
 /// In small pieces and in large ones.

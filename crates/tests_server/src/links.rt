@@ -5,6 +5,7 @@ use crate::server::opened;
 use host_model::ModelHost;
 use http_front::{ByteSink, ByteSource, StillClock};
 use record_keeper::MapKeeper;
+use rest_json::{Dialect, Terms};
 use serve_loop::{AloneGate, DaemonMachine, Gate, LinkEnd, NoLog, serve_link};
 use size_values::Seq;
 use std::alloc::Global;
@@ -23,6 +24,20 @@ pub(crate) const TWICE: &str =
 
 pub(crate) const TWICE_REPLIES: &str =
     "HTTP/1.1 200 OK\r\nContent-Type: application/json\r\nContent-Length: 66\r\n\r\n{\"metadata\":{},\"status\":\"Success\",\"status_code\":200,\"type\":\"sync\"}HTTP/1.1 409 Conflict\r\nContent-Type: application/json\r\nContent-Length: 112\r\n\r\n{\"error\":\"name is taken\",\"error_code\":409,\"metadata\":{\"kind\":\"project\",\"name\":\"lab\",\"rule\":\"N4\"},\"type\":\"error\"}";
+
+/// The terms of a door over TCP.
+pub(crate) const TCP: Terms = Terms {
+    boot: 1,
+    dialect: Dialect::Plain,
+    refuses_origin: true,
+};
+
+/// The terms of a door over a Unix socket.
+pub(crate) const SOCKET: Terms = Terms {
+    boot: 1,
+    dialect: Dialect::Client,
+    refuses_origin: false,
+};
 
 /// How many bytes a link gives at each read, at the most.
 const PIECE: usize = 100;
@@ -59,6 +74,7 @@ fn name_of(ends: &LinkEnd) -> &'static str {
 fn served<T: Wait, G: Gate>(
     rt: &T,
     alloc: Global,
+    terms: Terms,
     gate: &mut G,
     text: &str,
     piece: usize,
@@ -76,7 +92,7 @@ fn served<T: Wait, G: Gate>(
         &mut source,
         &mut sink,
         &mut clock,
-        1,
+        terms,
         &mut NoLog,
     );
     drop(source);
@@ -85,7 +101,7 @@ fn served<T: Wait, G: Gate>(
     (ends, sink)
 }
 
-/// Whether a link of this text ends so and gets these replies.
+/// Whether a link of this text over TCP ends so and gets these replies.
 pub(crate) fn is_served<T: Wait, G: Gate>(
     rt: &T,
     alloc: Global,
@@ -97,7 +113,23 @@ pub(crate) fn is_served<T: Wait, G: Gate>(
 ) -> bool
     requires { 1 ≤ piece }
 {
-    let (ended, sink) = served(rt, alloc, gate, text, piece);
+    is_served_on(rt, alloc, TCP, gate, text, piece, ends, replies)
+}
+
+/// The same of a link on these terms.
+pub(crate) fn is_served_on<T: Wait, G: Gate>(
+    rt: &T,
+    alloc: Global,
+    terms: Terms,
+    gate: &mut G,
+    text: &str,
+    piece: usize,
+    ends: &str,
+    replies: &str,
+) -> bool
+    requires { 1 ≤ piece }
+{
+    let (ended, sink) = served(rt, alloc, terms, gate, text, piece);
     let is_so = ended == ends && sink.bytes() == replies.as_bytes();
     drop(sink);
     is_so
@@ -111,7 +143,7 @@ pub(crate) fn count_in_replies<T: Wait, G: Gate>(
     text: &str,
     part: &str,
 ) -> Option<usize> {
-    let (ended, sink) = served(rt, alloc, gate, text, PIECE);
+    let (ended, sink) = served(rt, alloc, TCP, gate, text, PIECE);
     let count = count_of(sink.bytes(), part.as_bytes());
     drop(sink);
     if ended == "ended" { Some(count) } else { None }
@@ -119,7 +151,7 @@ pub(crate) fn count_in_replies<T: Wait, G: Gate>(
 
 /// Makes the requests of a text by a link. Whether that ended with its text.
 pub(crate) fn requests<T: Wait, G: Gate>(rt: &T, alloc: Global, gate: &mut G, text: &str) -> bool {
-    let (ended, sink) = served(rt, alloc, gate, text, PIECE);
+    let (ended, sink) = served(rt, alloc, TCP, gate, text, PIECE);
     drop(sink);
     ended == "ended"
 }

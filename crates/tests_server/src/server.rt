@@ -1,13 +1,14 @@
 //! A server with its keeper, asked by requests of the REST API.
 
+use crate::links::TCP;
 use host_model::Report;
 use http_heads::Request;
 use record_keeper::{Keeper, MapKeeper};
-use records::{Command, LimitKeyName, Refusal, Reply, UsageLine, View, What};
+use records::{Command, LimitKeyName, Reply, UsageLine, View, What};
 use rest_routes::Router;
 use row_machine::{Answer, Event};
 use serve_loop::Daemon;
-use size_values::{Or, Seq, Text};
+use size_values::{Seq, Text};
 use std::alloc::Global;
 
 /// The moment of every turn.
@@ -55,6 +56,7 @@ pub(crate) fn request_of(alloc: Global, line: &str) -> Request {
         last: false,
         expects: false,
         upgrade: None,
+        origin: false,
     }
 }
 
@@ -188,10 +190,10 @@ impl<R: Keeper + Drop> ServerOver<R> {
         self.daemon.view()
     }
 
-    /// The answer to what a request wants, or why its form is refused.
-    pub(crate) fn answer(&mut self, line: &str) -> Result<Answer, Or<Refusal>> {
+    /// The answer to what a request wants, or the reply as which it is read.
+    pub(crate) fn answer(&mut self, line: &str) -> Result<Answer, Reply> {
         let request = request_of(self.alloc, line);
-        let routed = self.router.route(self.alloc, &request, 1);
+        let routed = self.router.route(self.alloc, &request, TCP);
         drop(request);
         match routed {
             Ok(command) => {

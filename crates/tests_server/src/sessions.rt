@@ -1,7 +1,7 @@
 //! What a session of events sends.
 use crate::busy_gate::BusyGate;
 use crate::client::{Client, Piece};
-use crate::links::{OwnGate, POOL, new_gate, requests};
+use crate::links::{OwnGate, POOL, TCP, new_gate, requests};
 use crate::server::text;
 use http_front::ByteSink;
 use records::Filter;
@@ -145,7 +145,7 @@ fn listened<T: Wait + Copy>(
         &mut sink,
         KEY,
         &filter,
-        1,
+        TCP,
     );
     drop(source);
     drop(filter);

@@ -2,6 +2,7 @@
 //! memory is refused, of a snapshot that expires, and of each action. All else that replies tell,
 //! and what requests ask for, is told by the runs of `tests_sessions`.
 
+use crate::links::TCP;
 use crate::server::{Server, new_server, text};
 use config_lists::{Config, Devices};
 use records::{
@@ -157,7 +158,7 @@ fn expiring(alloc: Global) -> Reply {
 
 /// Whether a reply has this code and this body, and no location.
 fn prints(alloc: Global, reply: &Reply, code: u16, body: &str) -> bool {
-    let Ok(printed) = print(alloc, reply, 1, false) else {
+    let Ok(printed) = print(alloc, reply, TCP, false) else {
         return false;
     };
     let is_so = printed.code == code
@@ -201,7 +202,7 @@ fn prints_event(alloc: Global, life: Life, action: &str, moment: u64, date: &str
             source: text(alloc, "/1.0/instances/b?project=lab"),
         },
     };
-    let printed = print_notice(alloc, &notice, 1);
+    let printed = print_notice(alloc, &notice, TCP);
     drop(notice);
     match printed {
         Ok(text) => {

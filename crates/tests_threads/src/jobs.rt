@@ -173,22 +173,21 @@ impl<S: Source + Drop, K: Sink + Drop, R: Wait + Copy + Drop> Jobs<TestJob<S, K,
         board
     }
 
-    fn link_job(&mut self, slot: Arc<Board, Global>, source: S, sink: K) -> TestJob<S, K, R> {
+    fn link_job(&mut self, slot: Arc<Board, Global>, link: Link<S, K>) -> TestJob<S, K, R> {
         TestJob {
             rt: self.rt,
             board: slot,
             meet: self.meet,
             is_link: true,
-            link: Some(Link { source, sink }),
+            link: Some(link),
         }
     }
 
-    fn turn_away(&mut self, source: S, sink: K) {
+    fn turn_away(&mut self, link: Link<S, K>) {
         if let Some(board) = self.boards.last() {
             board.away.fetch_add(1, Ordering::SeqCst);
         }
-        drop(source);
-        drop(sink);
+        drop(link);
     }
 
     fn worker_job(&mut self, slot: Arc<Board, Global>) -> Result<TestJob<S, K, R>, NoMemory> {

@@ -2,7 +2,7 @@
 ghost use Rattle.std.specs.Prelude.{◌≡◌, IfOk};
 
 use http_front::{ByteSink, ByteSource};
-use serving::{Doors, Link, ListDoors};
+use serving::{DoorKind, Doors, Link, ListDoors};
 use size_values::{NoMemory, Seq};
 use std::alloc::Global;
 
@@ -10,6 +10,7 @@ use std::alloc::Global;
 pub(crate) fn link(alloc: Global, count: usize) -> Result<Link<ByteSource, ByteSink>, NoMemory> {
     let bytes = vec![in alloc; 7u8; count]?;
     Ok(Link {
+        door: DoorKind::Port,
         source: ByteSource::new(Seq::from_vec(bytes), 3, Seq::new(alloc)),
         sink: ByteSink::new(alloc, Seq::new(alloc)),
     })

@@ -2,8 +2,9 @@
 ghost use Rattle.std.specs.Prelude.{◌≡◌, IfSome};
 
 use http_front::{Sink, Source};
-use serving::{DoorEvents, Doors, LinkTimes, NetDoors, Stop};
+use serving::{DoorEvents, DoorFault, Doors, LinkTimes, NetDoors, Places, Stop};
 use std::alloc::Global;
+use std::fs::Files;
 use std::io::{ErrorKind, Read, Write};
 use std::net::{Net, Shutdown, SocketAddr, TcpListener, TcpStream};
 use std::thread;
@@ -18,13 +19,15 @@ const PATIENCE: u64 = 300;
 struct Silent;
 
 impl DoorEvents for Silent {
-    fn opened(&mut self, _is_listening: bool) {}
+    fn opened(&mut self) {}
+
+    fn refused(&mut self, _fault: DoorFault) {}
 
     fn failed(&mut self, _kind: ErrorKind) {}
 }
 
 /// Doors on a free port, and where they are.
-fn open<R: Net + Copy + Drop>(
+fn open<R: Net + Files + Copy + Drop>(
     rt: &R,
     alloc: Global,
     stop: Stop,
@@ -35,7 +38,7 @@ fn open<R: Net + Copy + Drop>(
 }
 
 /// The same, where a request is waited for so many milliseconds.
-fn open_for<R: Net + Copy + Drop>(
+fn open_for<R: Net + Files + Copy + Drop>(
     rt: &R,
     alloc: Global,
     stop: Stop,
@@ -47,13 +50,17 @@ fn open_for<R: Net + Copy + Drop>(
         idle: Duration::from_millis(idle),
         patience: Duration::from_millis(PATIENCE),
     };
-    let mut doors = NetDoors::at(*rt, alloc, 0, times, stop, Silent).ok()?;
+    let places = Places {
+        port: Some(0),
+        socket: None,
+    };
+    let mut doors = NetDoors::at(*rt, alloc, places, times, stop, Silent).ok()?;
     let address = doors.address()?;
     Some((doors, address))
 }
 
 /// Accepts one link and writes back the first bytes that come. How many they were, and how many accepts failed.
-fn answer_once<R: Net + Clock + Copy + Drop>(mut doors: NetDoors<R, Silent>) -> (usize, u64)
+fn answer_once<R: Net + Files + Clock + Copy + Drop>(mut doors: NetDoors<R, Silent>) -> (usize, u64)
     requires { doors.given ≡ 0 }
 {
     let count = match doors.accept() {
@@ -86,6 +93,7 @@ fn ask<R: Net<Listener = TcpListener, Stream = TcpStream>>(
 
 fn client_and_answer<
     R: Net<Listener = TcpListener, Stream = TcpStream>
+        + Files
         + Threads
         + Clock
         + Copy
@@ -98,7 +106,7 @@ fn client_and_answer<
 }
 
 /// A client that goes before it is accepted: the links given, the accepts failed, and whether the link gave no byte.
-fn gone<R: Net<Listener = TcpListener, Stream = TcpStream> + Clock + Copy + Drop>(
+fn gone<R: Net<Listener = TcpListener, Stream = TcpStream> + Files + Clock + Copy + Drop>(
     rt: &R,
     alloc: Global,
 ) -> Option<(u64, u64, bool)> {
@@ -117,7 +125,7 @@ fn gives_none<S: Source + Drop>(mut source: S) -> bool {
 }
 
 /// A client that never reads: the accepts failed, and the writes.
-fn asleep<R: Net<Listener = TcpListener, Stream = TcpStream> + Clock + Copy + Drop>(
+fn asleep<R: Net<Listener = TcpListener, Stream = TcpStream> + Files + Clock + Copy + Drop>(
     rt: &R,
     alloc: Global,
 ) -> Option<(u64, u64)> {
@@ -143,7 +151,7 @@ fn writes_failed<K: Sink + Drop>(alloc: Global, mut sink: K) -> Option<u64> {
 }
 
 /// A client that never sends: its link gives no byte once it was idle for long enough.
-fn idle<R: Net<Listener = TcpListener, Stream = TcpStream> + Clock + Copy + Drop>(
+fn idle<R: Net<Listener = TcpListener, Stream = TcpStream> + Files + Clock + Copy + Drop>(
     rt: &R,
     alloc: Global,
 ) -> Option<bool> {
@@ -178,7 +186,7 @@ fn drip<R: Net<Listener = TcpListener, Stream = TcpStream> + Clock>(rt: &R, addr
 }
 
 /// Accepts one link and reads what comes until a read gives nothing. Each read is answered or none is. How many bytes came.
-fn taken_of<R: Net + Clock + Copy + Drop>(
+fn taken_of<R: Net + Files + Clock + Copy + Drop>(
     mut doors: NetDoors<R, Silent>,
     is_answered: bool,
 ) -> usize
@@ -208,6 +216,7 @@ fn taken<S: Source + Drop, K: Sink + Drop>(mut source: S, mut sink: K, is_answer
 /// A client that sends a byte at a time: how many of its bytes come, where each read is answered or none is.
 fn dripping<
     R: Net<Listener = TcpListener, Stream = TcpStream>
+        + Files
         + Threads
         + Clock
         + Copy
@@ -236,7 +245,7 @@ struct Looks {
 
 /// A client that sends three bytes and stays, and a server that then stops: whether its source is ready before the bytes
 /// come, once they have come, and once the server stops; and what its reads give then.
-fn stopped<R: Net<Listener = TcpListener, Stream = TcpStream> + Clock + Copy + Drop>(
+fn stopped<R: Net<Listener = TcpListener, Stream = TcpStream> + Files + Clock + Copy + Drop>(
     rt: &R,
     alloc: Global,
 ) -> Option<Looks> {

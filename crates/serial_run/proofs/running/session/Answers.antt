@@ -7,7 +7,7 @@ returns g c =
     let session = rw c.requires at c.serve-ends.ensures in
     record {
       held = c.serve-ends.new.buffer;
-      few = session_few c.args.boot c.args.pace _ _ _ (omega arith) session;
+      few = session_few c.args.terms c.args.pace _ _ _ (omega arith) session;
       serial = c.serve-ends.new.service;
       session = session;
     }

@@ -9,7 +9,7 @@ pub returns-in-WriteFault : goal.returns-in-WriteFault
 returns-in-WriteFault g c =
     let item = c.notice-item.result in
     let at : item ≡ get_or c.args.notices.now c.notices.notice-index item = search rules in (
-      front_at c.args.boot c.args.notices.now c.notices.notice-index item c.notices-test.true at c.notices.invariant
+      front_at c.args.terms c.args.notices.now c.notices.notice-index item c.notices-test.true at c.notices.invariant
           (front_broken c.in-WriteFault.ensures),
       rose_after _ _ _ c.notices.invariant.later c.in-WriteFault.ensures.rose,
     )
@@ -18,5 +18,5 @@ pub returns-in-NoMemory : goal.returns-in-NoMemory
 returns-in-NoMemory g c =
     let item = c.notice-item.result in
     let at : item ≡ get_or c.args.notices.now c.notices.notice-index item = search rules in
-    front_at c.args.boot c.args.notices.now c.notices.notice-index item c.notices-test.true at c.notices.invariant
-    (front_same (text_frame (notice_text item c.args.boot)) c.in-NoMemory.ensures)
+    front_at c.args.terms c.args.notices.now c.notices.notice-index item c.notices-test.true at c.notices.invariant
+    (front_same (text_frame (notice_text item c.args.terms)) c.in-NoMemory.ensures)

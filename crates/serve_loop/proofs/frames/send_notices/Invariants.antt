@@ -6,4 +6,4 @@ use Rattle.serve_loop.proofs.frames.send_notices.Given as goal
 -- so far the first events were sent
 abbrev pub invariant-notices : goal.invariant-notices
 invariant-notices g l = Takes (outlet g.K.Sink.held g.K.Sink.failures l.fn.sink)
-    (outlet g.K.Sink.held g.K.Sink.failures l.sink) (frames_of l.boot (take l.notice-index l.notices))
+    (outlet g.K.Sink.held g.K.Sink.failures l.sink) (frames_of l.terms (take l.notice-index l.notices))

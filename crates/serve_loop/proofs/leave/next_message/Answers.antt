@@ -20,7 +20,7 @@ returns-in-Ok-give_leave-clause-ok g c = record {
         ended = c.read_request.ensures.ended;
       });
   awaited = c.in-Ok.awaited;
-  due = leave-for c.awaits_leave.new.buffer c.read_request.new.buffer c.in-Ok.awaited c.read_request.result
+  due = leave-for c.args.refuses_origin c.awaits_leave.new.buffer c.read_request.new.buffer c.in-Ok.awaited c.read_request.result
       c.in-Ok.ensures.told c.read_request.ensures.held;
   gives = c.in-Ok-give_leave.ensures.ok;
 }
@@ -37,6 +37,6 @@ returns-in-Err-clause-ok g c = rw c.from.ensures (record {
     ended = c.in-Err.ensures.ended;
   };
   awaited = false;
-  due = leave-none c.awaits_leave.new.buffer c.in-Err.stop c.in-Err.ensures.none;
+  due = leave-none c.args.refuses_origin c.awaits_leave.new.buffer c.in-Err.stop c.in-Err.ensures.none;
   gives = refl;
 })

@@ -6,7 +6,7 @@ use Rattle.serve_loop.proofs.link.serve.Given as goal
 
 -- so far requests were served, and none of them was the last on its connection
 abbrev pub invariant-loop : goal.invariant-loop
-invariant-loop g l = ServesSoFar l.boot
+invariant-loop g l = ServesSoFar l.terms
     (link_world l.fn.buffer (inlet g.S.Source.left g.S.Source.ended g.S.Source.failures l.fn.source)
     (outlet g.K.Sink.held g.K.Sink.failures l.fn.sink) (seen g.G.Gate.contents g.G.Gate.turned g.G.Gate.idled l.fn.gate)
     (g.C.Clock.readings l.fn.clock))

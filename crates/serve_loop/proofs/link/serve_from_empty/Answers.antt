@@ -13,6 +13,6 @@ returns g c =
     let serving = rw c.in-Ok-new.ensures at c.serve-ends.ensures in
     record {
       held = c.serve-ends.new.buffer;
-      few = link_few c.args.boot _ _ _ (omega arith) serving;
+      few = link_few c.args.terms _ _ _ (omega arith) serving;
       serving = serving;
     }

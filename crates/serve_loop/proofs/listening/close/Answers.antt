@@ -5,7 +5,7 @@ use Rattle.serve_loop.proofs.SessionParts.{closes}
 use Rattle.serve_loop.proofs.listening.close.Goals as goal
 
 pub returns : goal.returns
-returns g c = λ boot filter source gate. rw c.end_after_sending.ensures (
+returns g c = λ terms filter source gate. rw c.end_after_sending.ensures (
     closes lagged_frame (end.Lagged c.args.cursor c.args.oldest) (λ t takes. (refl, takes)) c.send_close-written.result
     c.send_close-written.ensures
     )

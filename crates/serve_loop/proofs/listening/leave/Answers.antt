@@ -5,6 +5,6 @@ use Rattle.serve_loop.proofs.SessionParts.{closes}
 use Rattle.serve_loop.proofs.listening.leave.Goals as goal
 
 pub returns : goal.returns
-returns g c = λ boot filter source gate. rw c.end_after_sending.ensures (
+returns g c = λ terms filter source gate. rw c.end_after_sending.ensures (
     closes away_frame end.Ended (λ t takes. (refl, takes)) c.send_close-written.result c.send_close-written.ensures
     )

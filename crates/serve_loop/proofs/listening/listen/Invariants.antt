@@ -7,7 +7,7 @@ use Rattle.serve_loop.proofs.listening.listen.Given as goal
 
 -- so far the session did what it had to, and it goes on
 abbrev pub invariant-rounds : goal.invariant-rounds
-invariant-rounds g l = Hears l.boot l.filter []
+invariant-rounds g l = Hears l.terms l.filter []
     (event_world (stage_at l.fn.at l.fn.held.items)
     (feed g.S.Source.left g.S.Source.ended g.S.Source.failures g.S.Source.at_once l.fn.source)
     (seen g.G.Gate.contents g.G.Gate.turned g.G.Gate.idled l.fn.gate)

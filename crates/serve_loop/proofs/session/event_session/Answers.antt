@@ -6,7 +6,7 @@ use Rattle.serve_loop.proofs.Taking.{front_broken, front_more, front_same}
 use Rattle.serve_loop.proofs.session.event_session.Goals as goal
 
 pub returns-in-Err : goal.returns-in-Err
-returns-in-Err g c = session_refused c.args.boot c.args.key.now c.args.filter.now _ _ _ _ c.in-Err.ensures.err
+returns-in-Err g c = session_refused c.args.terms c.args.key.now c.args.filter.now _ _ _ _ c.in-Err.ensures.err
 
 pub returns-in-Whole : goal.returns-in-Whole
 returns-in-Whole g c = session_goes c.in-Ok.ensures.ok c.in-Whole.ensures c.go_on_from.ensures
