@@ -7,6 +7,7 @@ ghost use Rattle.rest_routes.specs.Answers.{Gives};
 ghost use Rattle.rest_routes.specs.Leniencies.{body_in, can_be_filtered, pairs_in, plain_body};
 ghost use Rattle.rest_routes.specs.Queries.{query_of};
 ghost use Rattle.rest_routes.specs.declared.endpoints.Endpoint.TheVariants as endpoint;
+ghost use Rattle.rest_routes.specs.declared.endpoints.Verb.TheVariants as verb;
 
 use crate::endpoints::{Endpoint, Verb};
 use crate::paths::name_of;
@@ -18,13 +19,25 @@ use serde_json::Value;
 use size_values::{NoMemory, ObjectKind, Or};
 use std::alloc::Global;
 
+/// Whether Incus can filter a list of objects of a kind.
+fn can_filter(kind: ObjectKind) -> bool
+    ensures { result ≡ can_be_filtered (endpoint.List kind) verb.Get }
+{
+    match kind {
+        ObjectKind::Instance | ObjectKind::Volume => true,
+        _ => false,
+    }
+}
+
 /// Whether Incus can filter what a method asks of an endpoint.
 fn can_be_filtered(endpoint: Endpoint, verb: Verb) -> bool
     ensures { result ≡ can_be_filtered endpoint verb }
 {
-    match (endpoint, verb) {
-        (Endpoint::List(ObjectKind::Instance), Verb::Get) => true,
-        (Endpoint::List(ObjectKind::Volume), Verb::Get) => true,
+    match verb {
+        Verb::Get => match endpoint {
+            Endpoint::List(kind) => can_filter(kind),
+            _ => false,
+        },
         _ => false,
     }
 }
