@@ -4,6 +4,7 @@ use Rattle.serde_json.specs.Data.{Data, boolean, string}
 use Rattle.size_values.specs.declared.kinds.ObjectKind.TheVariants as kind
 use Rattle.rest_json.specs.Objects.{object_of}
 use Rattle.rest_routes.specs.Leniencies.{pairs_in, body_in}
+use Rattle.rest_routes.specs.Queries.{is_empty_filter}
 use Rattle.rest_json.specs.declared.terms.Dialect.TheVariants as dialect
 use Rattle.rest_routes.specs.declared.endpoints.Endpoint.{Endpoint}
 use Rattle.rest_routes.specs.declared.endpoints.Endpoint.TheVariants as endpoint
@@ -64,24 +65,19 @@ BodiesAreRead =
     (map (λ e. body_in dialect.Client e.endpoint e.verb e.path e.sent) bodies ≡ map (λ e. e.plain) bodies)
     × (map (λ e. body_in dialect.Plain e.endpoint e.verb e.path e.sent) bodies ≡ map (λ e. e.sent) bodies)
 
--- an empty filter, one that filters, and another key
+-- an empty filter as it stands in a query
 abbrev empty : List ℕ × List ℕ
 empty = (codes "filter", [])
 
-abbrev spelled : List ℕ × List ℕ
-spelled = (codes "fil%74er", [])
-
-abbrev filtering : List ℕ × List ℕ
-filtering = (codes "filter", codes "x")
-
-abbrev objects : List ℕ × List ℕ
-objects = (codes "recursion", codes "1")
-
--- in the client's dialect empty filters are passed over where Incus can filter, and there alone
+-- In the client's dialect a filter that is empty once it is decoded is passed over where Incus can filter, and there
+-- alone; any other pair stays.
 pub record QueriesAreRead : Type 0 where
-  pub instances : pairs_in dialect.Client (endpoint.List kind.Instance) verb.Get (empty ∷ objects ∷ spelled ∷ []) ≡ objects ∷ []
-  pub volumes : pairs_in dialect.Client (endpoint.List kind.Volume) verb.Get (empty ∷ []) ≡ []
-  pub filtered : pairs_in dialect.Client (endpoint.List kind.Instance) verb.Get (filtering ∷ []) ≡ filtering ∷ []
+  pub instances : (pair : List ℕ × List ℕ) → is_empty_filter pair ≡ true
+      → pairs_in dialect.Client (endpoint.List kind.Instance) verb.Get (pair ∷ []) ≡ []
+  pub volumes : (pair : List ℕ × List ℕ) → is_empty_filter pair ≡ true
+      → pairs_in dialect.Client (endpoint.List kind.Volume) verb.Get (pair ∷ []) ≡ []
+  pub filtered : (pair : List ℕ × List ℕ) → is_empty_filter pair ≡ false
+      → pairs_in dialect.Client (endpoint.List kind.Instance) verb.Get (pair ∷ []) ≡ pair ∷ []
   pub made : pairs_in dialect.Client (endpoint.List kind.Instance) verb.Post (empty ∷ []) ≡ empty ∷ []
   pub one : pairs_in dialect.Client (endpoint.One kind.Instance) verb.Get (empty ∷ []) ≡ empty ∷ []
   pub others : pairs_in dialect.Client (endpoint.List kind.Profile) verb.Get (empty ∷ []) ≡ empty ∷ []

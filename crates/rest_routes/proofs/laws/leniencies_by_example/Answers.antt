@@ -1,6 +1,4 @@
 use Rattle.std.proofs.Common.{refl}
-use Rattle.std.specs.Str.Lossy.{utf8_lossy}
-use Rattle.form_urlencoded.specs.Form.{decode}
 use Rattle.rest_bodies.specs.Members.{is_word}
 use Rattle.rest_bodies.specs.Without.{own_snapshot, with_own_snapshot, without_empty, without_start, without_untyped_source}
 use Rattle.rest_routes.specs.Paths.{after_slash, after_three_slashes, before_slash}
@@ -11,11 +9,10 @@ unfolding is_word own_snapshot with_own_snapshot without_empty without_start wit
 returns-clause-bodies c = (refl, refl)
 
 pub returns-clause-queries : goal.returns-clause-queries
-unfolding utf8_lossy decode
 returns-clause-queries c = record {
-  instances = refl;
-  volumes = refl;
-  filtered = refl;
+  instances = λ pair is. rw is refl;
+  volumes = λ pair is. rw is refl;
+  filtered = λ pair is. rw is refl;
   made = refl;
   one = refl;
   others = refl;
