@@ -28,6 +28,7 @@ import json
 import os
 import pwd
 import re
+import shutil
 import signal
 import socket
 import stat
@@ -169,9 +170,9 @@ def stale(program):
         with Server(program, path) as server:
             server.process.send_signal(signal.SIGKILL)
             server.process.wait()
-        before = node(path)
+        before = os.lstat(path).st_ctime_ns
         with Server(program, path, "--connections", "1") as server:
-            need(node(path) != before, "the file is the one of before")
+            need(os.lstat(path).st_ctime_ns > before, "the file is the one of before")
             need(server.curl("/1.0")[0] == 200, "GET /1.0")
             server.ends()
     return "the file of a server that was killed is replaced"
@@ -258,10 +259,10 @@ def refused(program):
 
 def connects(path, user, groups=()):
     """Whether a process of this user can connect."""
-    code = f"import socket; socket.socket(socket.AF_UNIX).connect({path!r})"
-    ran = subprocess.run([sys.executable, "-c", code], user=user, group=pwd.getpwnam(user).pw_gid, extra_groups=list(groups),
-                         capture_output=True, check=False)
-    need(ran.returncode == 0 or b"PermissionError" in ran.stderr, ran.stderr.decode())
+    words = ["curl", "-s", "-S", "-o", "/dev/null", "--max-time", str(PATIENCE), "--unix-socket", path, "http://localhost/1.0"]
+    ran = subprocess.run(words, user=user, group=pwd.getpwnam(user).pw_gid, extra_groups=list(groups), cwd="/", capture_output=True,
+                         check=False)
+    need(ran.returncode in (0, 7), f"curl ends with {ran.returncode}: {ran.stderr.decode()}")
     return ran.returncode == 0
 
 
@@ -280,7 +281,9 @@ def users(program):
                 need(not connects(path, "nobody"), "nobody can connect")
                 need(server.curl("/1.0")[0] == 200, "root can't connect")
             os.unlink(path)
-        said = refusal(program, "--socket", path, user="nobody", group=pwd.getpwnam("nobody").pw_gid, extra_groups=[])
+        own = shutil.copy(program, f"{folder}/program")
+        os.chmod(own, 0o755)
+        said = refusal(own, "--socket", path, cwd="/", user="nobody", group=pwd.getpwnam("nobody").pw_gid, extra_groups=[])
         need(said == f"incusd: the socket {path} can't be listened on: this user may not make or use it\n", said)
     return "nobody can't connect, a member of the group can; nobody can't listen in a folder of root's"
 
