@@ -3,3 +3,4 @@ pub mod FirstBad
 pub mod Found
 pub mod Spelled
 pub mod Removed
+pub mod Slashes

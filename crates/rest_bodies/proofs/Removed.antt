@@ -15,10 +15,11 @@ removed key [] = refl
 removed key (e ∷ es) =
     ap (λ here. members_view (cond here es (e ∷ remove_entry (is_at (λ k. slice_cmp nat_cmp key (string_bytes k))) es)))
     (is_eq-slice_cmp key (string_bytes e.0))
-    ∙ by (bytes_eq key (string_bytes e.0))
+    ∙ by (bytes_eq key (string_bytes e.0)) (removed key es)
   where
     by : (here : Bool)
+        → members_view (remove_entry (is_at (λ k. slice_cmp nat_cmp key (string_bytes k))) es) ≡ members_without key (members_view es)
         → members_view (cond here es (e ∷ remove_entry (is_at (λ k. slice_cmp nat_cmp key (string_bytes k))) es))
         ≡ cond here (members_view es) (member (string_bytes e.0) (view e.1) (members_without key (members_view es)))
-    by true = refl
-    by false = ap (member (string_bytes e.0) (view e.1)) (removed key es)
+    by true rest = refl
+    by false rest = ap (member (string_bytes e.0) (view e.1)) rest

@@ -48,7 +48,7 @@ pub fn object_in(alloc: Global, body: &[u8]) -> Result<Option<Value>, NoMemory>
     }
 }
 
-fn copy_of(alloc: Global, text: Option<&str>) -> Result<Option<Text>, NoMemory>
+pub(crate) fn copy_of(alloc: Global, text: Option<&str>) -> Result<Option<Text>, NoMemory>
     ensures { IfOk result (λ o. o ≡ option_map (λ s. s.now) text.entry) }
 {
     match text {

@@ -6,9 +6,9 @@ ghost use Rattle.rest_bodies.specs.Origins.{has_word};
 ghost use Rattle.rest_bodies.specs.Without.{without, without_empty, without_untyped_source, without_start};
 ghost use Rattle.rest_bodies.specs.Without.{own_snapshot, with_text, with_own_snapshot};
 
-use crate::members::is_word;
+use crate::members::{copy_of, is_word};
 use serde_json::Value;
-use size_values::{NoMemory, Text};
+use size_values::NoMemory;
 use std::alloc::Global;
 
 /// The body without the member of a key.
@@ -140,9 +140,9 @@ fn restored<'a>(instance: &str, body: &'a Value) -> Option<&'a str>
 pub fn with_own_snapshot(alloc: Global, body: Value, instance: &str) -> Result<Value, NoMemory>
     ensures { IfOk result (λ v. view v ≡ with_own_snapshot instance.now (view body)) }
 {
-    let snapshot = match restored(instance, &body) {
-        Some(snapshot) => Text::from_text(alloc, snapshot)?,
-        None => return Ok(body),
-    };
-    with_text(alloc, body, "restore", snapshot.view())
+    let snapshot = copy_of(alloc, restored(instance, &body))?;
+    match snapshot {
+        Some(snapshot) => with_text(alloc, body, "restore", snapshot.view()),
+        None => Ok(body),
+    }
 }

@@ -4,8 +4,8 @@ ghost use Rattle.serde_json.specs.View.{view};
 ghost use Rattle.records.specs.declared.replies.Reply.TheVariants as reply;
 ghost use Rattle.rest_bodies.specs.Members.{object_in};
 ghost use Rattle.rest_routes.specs.Answers.{Gives, Reads};
-ghost use Rattle.rest_routes.specs.Commands.{asked_at, command_at, command_of, unlisted, what_at};
-ghost use Rattle.rest_routes.specs.Endpoints.{has_body};
+ghost use Rattle.rest_routes.specs.Commands.{command_at, command_of, shown_empty, unlisted, what_at};
+ghost use Rattle.rest_routes.specs.Endpoints.{empty_line_of, has_body, verb_offered};
 ghost use Rattle.rest_routes.specs.Leniencies.{body_in};
 ghost use Rattle.rest_routes.specs.Paths.{path_of, query_of};
 ghost use Rattle.rest_routes.specs.Refusals.{plain_refusal};
@@ -105,19 +105,27 @@ fn refused_by(alloc: Global, rule: Rule) -> Reply
     }
 }
 
-/// What is shown at a path that is not listed: the client's dialect shows lists that are always empty here.
+/// What is shown at a path where nothing is but maybe a list that is always empty here.
+fn shown_empty(alloc: Global, table: &PathTable, path: &str, method: &str) -> Reply
+    ensures { (result ≡ reply.NoMemory)
+        ⊎ (result ≡ shown_empty (option_map (λ line. verb_offered line method.now) (empty_line_of path.now))) }
+{
+    match table.empty_line_of(path) {
+        Some(line) => match verb_offered(line, method) {
+            Some(_) => Reply::Links(Seq::new(alloc)),
+            None => refused_by(alloc, Rule::A2),
+        },
+        None => refused_by(alloc, Rule::A1),
+    }
+}
+
+/// The reply at a path that is not listed: the client's dialect shows lists that are always empty here.
 fn unlisted(alloc: Global, table: &PathTable, dialect: Dialect, path: &str, method: &str) -> Reply
     ensures { (result ≡ reply.NoMemory) ⊎ (result ≡ unlisted dialect path.now method.now) }
 {
-    if dialect == Dialect::Plain {
-        return refused_by(alloc, Rule::A1);
-    }
-    let Some(line) = table.empty_line_of(path) else {
-        return refused_by(alloc, Rule::A1);
-    };
-    match verb_offered(line, method) {
-        Some(_) => Reply::Links(Seq::new(alloc)),
-        None => refused_by(alloc, Rule::A2),
+    match dialect {
+        Dialect::Plain => refused_by(alloc, Rule::A1),
+        Dialect::Client => shown_empty(alloc, table, path, method),
     }
 }
 
