@@ -108,9 +108,10 @@ abbrev pub reply_world : Outlet → Seen → Readings → ReplyWorld
 reply_world sink gate clock = record { sink = sink; gate = gate; clock = clock }
 
 -- The link did what its input asks, and nothing else. The requests up to and with the first that is the last on its
--- connection, or after whose answer a session of events begins, and before the first that is refused for its `Origin`,
--- were carried out, each by the turns and idles that it is due. These are all that was done at the gate, and the clock was read for nothing else. The end is the one that is due,
--- and the sink took the replies in their order, and leave for each body that awaits it.
+-- connection, or after whose answer a session of events begins, and before the first that is refused for its
+-- `Origin`, were carried out, each by the turns and idles that it is due. These are all that was done at the gate,
+-- and the clock was read for nothing else. The end is the one that is due, and the sink took the replies in their
+-- order, and leave for each body that awaits it.
 pub record ServesText (terms : Terms) (text : List ℕ) (messages : List Request) (ending : Ending) (ends : LinkEnd)
     (world later : ReplyWorld) : Type 0 where
   pub exchanges : List Exchange
