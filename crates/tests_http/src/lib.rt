@@ -16,6 +16,8 @@ mod incusd_words;
 #[cfg(test)]
 mod leave;
 #[cfg(test)]
+mod origins;
+#[cfg(test)]
 mod readings;
 #[cfg(test)]
 mod replies;
