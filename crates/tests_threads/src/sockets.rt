@@ -102,7 +102,8 @@ fn client_and_answer<
         + Sync,
 >(rt: &R, alloc: Global) -> Option<((usize, u64), Option<[u8; 5]>)> {
     let (doors, address) = open(rt, alloc, Stop::new(alloc).ok()?)?;
-    Some(join(rt, move || answer_once(doors), || ask(rt, address)))
+    let (got, answered) = join(rt, || ask(rt, address), move || answer_once(doors));
+    Some((answered, got))
 }
 
 /// A client that goes before it is accepted: the links given, the accepts failed, and whether the link gave no byte.
@@ -225,10 +226,10 @@ fn dripping<
         + Sync,
 >(rt: &R, alloc: Global, is_answered: bool) -> Option<usize> {
     let (doors, address) = open_for(rt, alloc, Stop::new(alloc).ok()?, WAIT)?;
-    let (count, ()) = join(
+    let ((), count) = join(
         rt,
-        move || taken_of(doors, is_answered),
         || drip(rt, address),
+        move || taken_of(doors, is_answered),
     );
     Some(count)
 }
