@@ -169,6 +169,11 @@ reached terms w v xs text messages ending all is splits =
       goes_on = splits_after text taken.0 (requests_of xs) messages ending taken.1 splits;
     }
 
+-- what is said of the bytes to come holds where they are known
+at_known : (P : List ℕ → Type 0) (known : Option (List ℕ)) → IfSome known P → (rest : List ℕ) → known ≡ Some rest
+    → P rest
+at_known P known holds rest is = subst (λ k. IfSome k P) is holds
+
 -- a link that ends with its input
 text_at_end : (terms : Terms) (w v w' : LinkWorld) (xs : List Exchange) (text : List ℕ) (messages : List Request)
     (ending other : Ending) (awaited : Bool) → Together terms w xs v → AreGoing terms xs → input w ≡ Some text
@@ -258,11 +263,6 @@ text_at_final terms w v w' xs text messages ending serves final is splits =
     text_at_last terms w v w' xs final.0 text messages ending end.Ended serves
     (first_together terms v w' w' final.0 [] final.1 (none_together terms w'))
     (λ left. ends_final terms final.0 left ending final.1.carries.welcome final.1.carries.begun final.2) (λ rest. refl) refl is splits
-
--- what is said of the bytes to come holds where they are known
-at_known : (P : List ℕ → Type 0) (known : Option (List ℕ)) → IfSome known P → (rest : List ℕ) → known ≡ Some rest
-    → P rest
-at_known P known holds rest is = subst (λ k. IfSome k P) is holds
 
 -- a link that took nothing more
 same_sink : (v w' : LinkWorld) → w'.sink ≡ v.sink → Appends v.sink.held w'.sink.held []

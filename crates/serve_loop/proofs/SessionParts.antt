@@ -66,7 +66,7 @@ between_along {a} {b} {c} xs ys first then =
 
 -- ---- one part after another
 
-pub hears_twice : {terms : ℕ} {filter : Filter} {owed : List ℕ} {a b c : EventWorld} → Hears terms filter owed a b
+pub hears_twice : {terms : Terms} {filter : Filter} {owed : List ℕ} {a b c : EventWorld} → Hears terms filter owed a b
     → Hears terms filter [] b c → Hears terms filter owed a c
 hears_twice {terms} {filter} {owed} {a} {b} {c} first then = record {
   trail = first.trail ++ then.trail;
@@ -78,7 +78,7 @@ hears_twice {terms} {filter} {owed} {a} {b} {c} first then = record {
 }
 
 -- what was heard, and how it ended then
-pub hears_then : {terms : ℕ} {filter : Filter} {owed : List ℕ} {a b : EventWorld} {source : Feed} {gate : Seen}
+pub hears_then : {terms : Terms} {filter : Filter} {owed : List ℕ} {a b : EventWorld} {source : Feed} {gate : Seen}
     {sink : Outlet} {ends : SessionEnd} → Hears terms filter owed a b → Leaves terms filter [] b source gate sink ends
     → Leaves terms filter owed a source gate sink ends
 hears_then {terms} {filter} {owed} {a} {b} {source} {gate} {sink} {ends} first then = record {
@@ -98,7 +98,7 @@ none_heard terms filter w =
 
 -- ---- asking
 
-asks_hears : {terms : ℕ} {filter : Filter} {cursor : ℕ} {held : List ℕ} {f : Fetched} {source : Feed} {a b : Seen}
+asks_hears : {terms : Terms} {filter : Filter} {cursor : ℕ} {held : List ℕ} {f : Fetched} {source : Feed} {a b : Seen}
     {s : Outlet} {w : EventWorld} → Asks filter cursor (answer.Fetched f) a b
     → Hears terms filter (fetched_text terms f) (event_world (after_fetched f held) source b s) w
     → Hears terms filter [] (event_world (asking cursor held) source a s) w
@@ -110,7 +110,7 @@ asks_hears {filter} {cursor} {f} asks h = record {
   sent = h.sent;
 }
 
-pub asks_leaves : {terms : ℕ} {filter : Filter} {cursor : ℕ} {held : List ℕ} {f : Fetched} {source source' : Feed}
+pub asks_leaves : {terms : Terms} {filter : Filter} {cursor : ℕ} {held : List ℕ} {f : Fetched} {source source' : Feed}
     {a b gate : Seen} {s sink : Outlet} {ends : SessionEnd} → Asks filter cursor (answer.Fetched f) a b
     → Leaves terms filter (fetched_text terms f) (event_world (after_fetched f held) source b s) source' gate sink ends
     → Leaves terms filter [] (event_world (asking cursor held) source a s) source' gate sink ends
@@ -178,7 +178,7 @@ asks_err cursor given old new filter of (Err e) is t turned idled_is got_none =
 -- ---- idling
 
 -- a session idled, and looks at its source then
-pub idles_on : {terms : ℕ} {filter : Filter} {a b : Seen} {is_up : Bool} (held : List ℕ) (source : Feed) (s : Outlet)
+pub idles_on : {terms : Terms} {filter : Filter} {a b : Seen} {is_up : Bool} (held : List ℕ) (source : Feed) (s : Outlet)
     (next : ℕ)
     (t : GateIdle is_up a.contents b.contents) → b.turned ≡ a.turned → b.idled ≡ idled_after is_up a.idled
     → Hears terms filter [] (event_world (idling next held) source a s) (event_world (looking next held) source b s)
@@ -249,7 +249,7 @@ some_sent terms filter (n ∷ ns) next held source g s s' written some sends =
     sends_goes terms filter n ns next held source g s s' written sends
 
 -- the last text of a session was written, or could not be
-pub closes : {terms : ℕ} {filter : Filter} {source : Feed} {g : Seen} {s s' : Outlet} (text : List ℕ) (ends : SessionEnd)
+pub closes : {terms : Terms} {filter : Filter} {source : Feed} {g : Seen} {s s' : Outlet} (text : List ℕ) (ends : SessionEnd)
     → ((t : List ℕ) → Takes s s' t → Ends ends (ended ends) s s' t) → (written : Written) → Sends written text s s'
     → Leaves terms filter text (event_world (ended ends) source g s) source g s' (end_after_sending written ends)
 closes {g} {s} {s'} text ends last how.Whole takes = record {
@@ -280,7 +280,7 @@ closes {g} text ends last how.NoMemory same = record {
 -- ---- looking
 
 -- nothing was there
-pub quiet_goes : {terms : ℕ} {filter : Filter} {source source' : Feed} {held held' : List ℕ} (cursor : ℕ) (g : Seen)
+pub quiet_goes : {terms : Terms} {filter : Filter} {source source' : Feed} {held held' : List ℕ} (cursor : ℕ) (g : Seen)
     (s : Outlet) (l : Looked) → l ≡ shown.Quiet → Looks l source held source' held'
     → Hears terms filter [] (event_world (looking cursor held) source g s) (event_world (asking cursor held') source' g s)
 quiet_goes {source} {source'} {held} {held'} cursor g s l is given =
@@ -294,7 +294,7 @@ quiet_goes {source} {source'} {held} {held'} cursor g s l is given =
     }
 
 -- some bytes were there
-pub came_goes : {terms : ℕ} {filter : Filter} {source source' : Feed} {held held' : List ℕ} (cursor : ℕ) (g : Seen)
+pub came_goes : {terms : Terms} {filter : Filter} {source source' : Feed} {held held' : List ℕ} (cursor : ℕ) (g : Seen)
     (s : Outlet) (l : Looked) → l ≡ shown.Came → Looks l source held source' held'
     → Hears terms filter [] (event_world (looking cursor held) source g s) (event_world (hearing cursor held') source' g s)
 came_goes {source} {source'} {held} {held'} cursor g s l is given =
@@ -308,7 +308,7 @@ came_goes {source} {source'} {held} {held'} cursor g s l is given =
     }
 
 -- the source has ended, and the session left
-pub over_leaves : {terms : ℕ} {filter : Filter} {source source' later : Feed} {held : List ℕ} {cursor : ℕ}
+pub over_leaves : {terms : Terms} {filter : Filter} {source source' later : Feed} {held : List ℕ} {cursor : ℕ}
     {g gate : Seen} {s sink : Outlet} {ends : SessionEnd} (held' : List ℕ) (l : Looked) → l ≡ shown.Over
     → Looks l source held source' held'
     → Leaves terms filter away_frame (event_world (ended end.Ended) source' g s) later gate sink ends
@@ -325,7 +325,7 @@ over_leaves {source} {source'} {held} held' l is given leaves =
     }
 
 -- the read failed
-pub broken_leaves : {terms : ℕ} {filter : Filter} {source source' : Feed} {held : List ℕ} {cursor : ℕ} (held' : List ℕ)
+pub broken_leaves : {terms : Terms} {filter : Filter} {source source' : Feed} {held : List ℕ} {cursor : ℕ} (held' : List ℕ)
     (g : Seen) (s : Outlet) (l : Looked) → l ≡ shown.Broken → Looks l source held source' held'
     → Leaves terms filter [] (event_world (looking cursor held) source g s) source' g s end.ReadFault
 broken_leaves {source} {source'} {held} held' g s l is given =
@@ -340,7 +340,7 @@ broken_leaves {source} {source'} {held} held' g s l is given =
     }
 
 -- memory was refused where a session stood
-pub stays_refused : {terms : ℕ} {filter : Filter} {source : Feed} (w : SessionStage) (g : Seen) (s : Outlet)
+pub stays_refused : {terms : Terms} {filter : Filter} {source : Feed} (w : SessionStage) (g : Seen) (s : Outlet)
     → Leaves terms filter [] (event_world w source g s) source g s end.NoMemory
 stays_refused w g s = record {
   trail = [];
@@ -354,7 +354,7 @@ stays_refused w g s = record {
 -- ---- hearing
 
 -- no frame was whole
-pub unfinished_goes : {terms : ℕ} {filter : Filter} {source : Feed} (held : List ℕ) (cursor : ℕ) (g : Seen) (s : Outlet)
+pub unfinished_goes : {terms : Terms} {filter : Filter} {source : Feed} (held : List ℕ) (cursor : ℕ) (g : Seen) (s : Outlet)
     → next_in held ≡ unfinished
     → Hears terms filter [] (event_world (hearing cursor held) source g s) (event_world (asking cursor held) source g s)
 unfinished_goes held cursor g s is = record {
@@ -365,7 +365,7 @@ unfinished_goes held cursor g s is = record {
   sent = takes_nothing s;
 }
 
-heard_on : {terms : ℕ} {filter : Filter} {source : Feed} {g : Seen} {s s' : Outlet} (next : Next) (held : List ℕ)
+heard_on : {terms : Terms} {filter : Filter} {source : Feed} {g : Seen} {s s' : Outlet} (next : Next) (held : List ℕ)
     (cursor : ℕ) (stage : SessionStage) → next ≡ next_in held → stage ≡ after_next cursor held next
     → Takes s s' (said terms (heard next))
     → Hears terms filter [] (event_world (hearing cursor held) source g s) (event_world stage source g s')
@@ -377,7 +377,7 @@ heard_on {terms} {g} {s} {s'} next held cursor stage is then takes = record {
   sent = subst (Takes s s') (sym (append-nil (said terms (heard next)))) takes;
 }
 
-heard_out : {terms : ℕ} {filter : Filter} {source : Feed} {g : Seen} {s s' : Outlet} (next : Next) (held : List ℕ)
+heard_out : {terms : Terms} {filter : Filter} {source : Feed} {g : Seen} {s s' : Outlet} (next : Next) (held : List ℕ)
     (cursor : ℕ) (ends : SessionEnd) → next ≡ next_in held
     → Ends ends (after_next cursor held next) s s' (said terms (heard next) ++ [])
     → Leaves terms filter [] (event_world (hearing cursor held) source g s) source g s' ends
@@ -499,7 +499,7 @@ refusal_after error.OutOfMemory cursor held = refl
 -- ---- a whole session
 
 -- the first answer came, the head was written, and then it ended so
-pub session_goes : {terms : ℕ} {key : List ℕ} {filter : Filter} {f : Fetched} {source source' : Feed} {a b gate : Seen}
+pub session_goes : {terms : Terms} {key : List ℕ} {filter : Filter} {f : Fetched} {source source' : Feed} {a b gate : Seen}
     {s s' sink : Outlet} {ends : SessionEnd} → Asks filter 0 (answer.Fetched f) a b → Takes s s' (accepting_head key)
     → Leaves terms filter (fetched_text terms f) (event_world (after_fetched f []) source b s') source' gate sink ends
     → Session terms key filter source a s source' gate sink ends
@@ -514,7 +514,7 @@ session_goes {terms} {key} {filter} {f} {s} {s'} {sink} {ends} asks head l = rec
 }
 
 -- the first answer came, and the head could not be written
-pub session_stops : {terms : ℕ} {key : List ℕ} {filter : Filter} {f : Fetched} {source : Feed} {a b : Seen}
+pub session_stops : {terms : Terms} {key : List ℕ} {filter : Filter} {f : Fetched} {source : Feed} {a b : Seen}
     {s s' : Outlet} (ends : SessionEnd) → Asks filter 0 (answer.Fetched f) a b
     → ((p : SessionStage) (t : List ℕ) → Ends ends p s s' (accepting_head key ++ t))
     → Session terms key filter source a s source b s' ends

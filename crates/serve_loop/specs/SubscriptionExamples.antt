@@ -16,6 +16,7 @@ get target key = record {
   last = false;
   expects = false;
   upgrade = Some key;
+  origin = false;
 }
 
 -- lifecycle events or not, operation events or not, and of which project
