@@ -154,7 +154,7 @@ pub along_reply : (terms : Terms) (w w' : SerialWorld) (e : Exchange) → Comes 
     (failed_commits e.outcome + held_keeper_failures e.held) (held_host_failures e.held) w'
 along_reply terms w w' e h = along_answered w w' (command_of e.request terms) e.moment e.outcome e.held e.reply h
 
-pub along_leads : {terms : ℕ} {follows : Pace} {w w' : SerialWorld} {e : Exchange} → Leads terms follows w e w'
+pub along_leads : {terms : Terms} {follows : Pace} {w w' : SerialWorld} {e : Exchange} → Leads terms follows w e w'
     → IsAlong w (moments_at e) (keeper_failures_at e) (host_failures_at e) w'
 along_leads {terms} {follows} {w} {w'} {e} h =
     along_twice (along_reply terms w h.replied e h.comes) (along_paced follows h.replied w' e.steps h.paced)

@@ -24,7 +24,7 @@ use Rattle.serial_run.specs.Most.{most_requests}
 use Rattle.serial_run.specs.Worlds.{Outlet, Outside}
 use Rattle.serial_run.specs.declared.session.SessionEnd.{SessionEnd}
 use Rattle.serial_run.specs.declared.session.SessionEnd.TheVariants as end
-use Rattle.serial_run.specs.Does.{Carried, Does, DoesOther, IsReadyFor, OpensToRows}
+use Rattle.serial_run.specs.Does.{Carried, Does, DoesOther, IsReadyFor, OpensToRows, drill_terms}
 use Rattle.serial_run.specs.Runs.{HasCauseToRefuse, Runs, terms_with, seen_with}
 use Rattle.serial_run.specs.Texts.{RunsText, is_fault}
 use Rattle.start_faults.specs.Starts.{start_status}
@@ -118,7 +118,8 @@ cause_of Check handed before after status does = by does.checks where
   by : Checks status before.sink after.sink before.keeper after.keeper → Cause status before after
   by (inl (s, opens, tells)) = by_text status _ before after tells
   by (inr h) = by_opening status before after h
-cause_of (Drill seed count) handed before after status does = drills_cause handed (stream_of seed count) status before after does.drills
+cause_of (Drill seed count) handed before after status does =
+    drills_cause (drill_terms handed) (stream_of seed count) status before after does.drills
 
 -- where the status is one of these, its cause is the one of its number
 only : {P : Type 0} (n : ℕ) (before after : Outside) (status : ℕ) → Cause status before after → status ≡ n
