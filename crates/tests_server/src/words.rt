@@ -10,7 +10,7 @@ use records::{
     Target, View,
 };
 use rest_routes::{print, print_notice};
-use size_values::{ObjectKind, Or, Seq, Text};
+use size_values::{ObjectKind, Seq, Text};
 use std::alloc::Global;
 
 /// Rules that no run can break, with everything at hand that a rule may tell: their codes and
@@ -215,9 +215,9 @@ fn prints_event(alloc: Global, life: Life, action: &str, moment: u64, date: &str
 }
 
 /// Whether this is the refusal of an unknown path, which tells nothing more.
-fn is_unknown(why: &Or<Refusal>) -> bool {
+fn is_unknown(why: &Reply) -> bool {
     match why {
-        Or::Why(refusal) => {
+        Reply::Refused(refusal) => {
             let details = &refusal.details;
             refusal.rule == Rule::A1
                 && details.kind.is_empty()
@@ -226,7 +226,7 @@ fn is_unknown(why: &Or<Refusal>) -> bool {
                 && details.key.is_empty()
                 && details.number == 0
         }
-        Or::NoMemory => false,
+        _ => false,
     }
 }
 
