@@ -13,7 +13,8 @@ shortest of a number of runs (3), by turns, and the most memory held. ~ marks wh
 machine: over the same rows once with 100 creations and once with 200, of which the difference is 100.
 
 It ends with status 1 where the ratios are above what they are to be: 1.3 for an acceptance with a limit on the pool to one with
-`limits.disk`, 1.5 for it at the most instances to the fewest, 2 for 1,000 such limits to one, and 1.1 for memory to none.
+`limits.disk`, 1.5 for it at the most instances to the fewest, 2 for 1,000 such limits to one, and 1.1 for memory to that with
+`limits.disk`.
 """
 import argparse
 import shutil
@@ -152,8 +153,8 @@ def main():
             tell(samples.values())
             met = judge_all(lambda *key: samples[key].acceptance(), counts)
             for count in counts:
-                met &= judge(f"memory, {POOL} to {NONE}, {count:,} instances",
-                             samples[POOL, count].memory() / samples[NONE, count].memory(), 1.1)
+                met &= judge(f"memory, {POOL} to {DISK}, {count:,} instances",
+                             samples[POOL, count].memory() / samples[DISK, count].memory(), 1.1)
     sys.exit(0 if met else 1)
 
 
