@@ -29,7 +29,6 @@ import row_entries  # noqa: E402
 
 PROJECTS = ("default", "ant", "bee", "cat")
 OWN = {"features.profiles": "true", "features.storage.volumes": "true"}
-RECORD = 1024
 
 
 def volumes(count):
@@ -43,15 +42,7 @@ def volumes(count):
         yield row_entries.volume(f"{PROJECTS[at % len(PROJECTS)]}/tank/v{at:05}", config, f"the volume of number {at}", 1_764_000_000 + at)
 
 
-def add_records(file, entries):
-    """Puts rows behind those of a journal."""
-    changes = [b"\1" + bytes([kind]) + row_entries.text(key) + row_entries.text(body) for kind, key, body in entries]
-    records = (row_entries.listed(changes[at:at + RECORD]) for at in range(0, len(changes), RECORD))
-    behind = b"".join(b"\1" + row_entries.number(len(record)) + record for record in records)
-    file.write_bytes(file.read_bytes()[:-1] + behind + b"\0")
-
-
-KINDS = {"database": ("--db", row_entries.write), "journal": ("--journal", add_records)}
+KINDS = {"database": ("--db", row_entries.write), "journal": ("--journal", row_entries.add_records)}
 
 
 def size_of(file):

@@ -88,6 +88,14 @@ def write(file, entries):
     database.close()
 
 
+def add_records(file, entries):
+    """Puts rows behind those of a journal, 1,024 of them in a record."""
+    changes = [b"\1" + bytes([kind]) + text(key) + text(body) for kind, key, body in entries]
+    records = (listed(changes[at:at + 1024]) for at in range(0, len(changes), 1024))
+    behind = b"".join(b"\1" + number(len(record)) + record for record in records)
+    file.write_bytes(file.read_bytes()[:-1] + behind + b"\0")
+
+
 def read(file):
     database = sqlite3.connect(file)
     found = database.execute("SELECT kind, key, body FROM records ORDER BY kind, key").fetchall()
