@@ -432,7 +432,7 @@ def origin(program):
                 need(reader.reply()[0] == 200 and projects(link) == {"default", "page"}, "a deletion with an Origin at the socket file")
             time.sleep(0.2)
             told = [line for line in server.lines if " H5 " in line]
-            need(len(told) == 21 and all(re.search(r" 127\.0\.0\.1:\d+ - - 403 H5 \d+$", line.rstrip()) for line in told), f"{told}")
+            need(len(told) == 21 and all(re.search(r" 127\.0\.0\.1:\d+ [A-Z]+ \S+ 403 H5 \d+$", line.rstrip()) for line in told), f"{told}")
     return "21 requests at the port: 403 H5, no leave, the connection ended and nothing was changed; at the socket file they are served"
 
 
