@@ -1,12 +1,13 @@
 #!/usr/bin/env python3
 """Refuses memory in each part of a session of incus_run, and judges what is answered.
 
-    tests/out_of_memory.py SESSION [WORD..]
+    tests/out_of_memory.py SESSION [--allocation N] [--every N] [WORD..]
 
 SESSION is a file of requests, as those of examples/, and the words are further ones of `run`: `--boot 1 --steps 0` without any, as
-examples/lifecycle.http wants. The program is run by `rt try` (unproved, checked at run time), and the 3,000th allocation is
-refused: once for each of many beginnings of requests that come before the session, so that it falls into each part of it. What is
-answered must be one of these:
+examples/lifecycle.http wants. Or it is `day`, the run "A day of a user" of crates/tests_sessions/stdin with its own words. The program is run
+by `rt try` (unproved, checked at run time), and the Nth allocation is refused (3,000): once for each of many beginnings of requests that come
+before the session, so that it falls into each part of its first N allocations; with `--every N` for one beginning in N. What is answered must
+be one of these:
 
 - the replies of the run in which all goes well;
 - those of the run without one request, and in the place of its reply 500 with the rule M1: nothing was changed by it;
@@ -25,6 +26,9 @@ import subprocess
 import sys
 import tempfile
 from pathlib import Path
+
+sys.dont_write_bytecode = True
+from session_runs import DAY, bytes_of  # noqa: E402
 
 TOP = Path(__file__).resolve().parent.parent
 ALLOCATION = 3000
@@ -135,12 +139,25 @@ class Session:
         return "WRONG", None
 
 
+def option(words, name, default):
+    """The number behind a word, and the words without both."""
+    if name not in words:
+        return default, words
+    at = words.index(name)
+    return int(words[at + 1]), words[:at] + words[at + 2:]
+
+
 def main(path, words):
-    session = Session(Path(path).read_bytes(), words)
-    beginnings = [(long, short) for long in range(ALLOCATION // 20) for short in (0, 3)]
+    allocation, words = option(words, "--allocation", ALLOCATION)
+    every, words = option(words, "--every", 1)
+    of_day, day = bytes_of(DAY)
+    text = day if path == "day" else Path(path).read_bytes()
+    words = words or (of_day[2:] if path == "day" else ["--boot", "1", "--steps", "0"])
+    session = Session(text, words)
+    beginnings = [(long, short) for long in range(0, allocation // 20, every) for short in (0, 3)]
     cases = {f"{long}-{short}": (LONG * long + SHORT * short + session.text, []) for long, short in beginnings}
     sorts, ends, wrong = collections.Counter(), collections.Counter(), []
-    for name, (replies, status) in run_all(words, cases, "--fail-alloc", str(ALLOCATION)).items():
+    for name, (replies, status) in run_all(words, cases, "--fail-alloc", str(allocation)).items():
         before = sum(map(int, name.split("-")))
         if len(replies) < before or any(is_refused_memory(reply) for reply in replies[:before]):
             continue  # the allocation fell into what comes before the session
@@ -162,4 +179,4 @@ def main(path, words):
 if __name__ == "__main__":
     if len(sys.argv) < 2:
         sys.exit(__doc__)
-    sys.exit(main(sys.argv[1], sys.argv[2:] or ["--boot", "1", "--steps", "0"]))
+    sys.exit(main(sys.argv[1], sys.argv[2:]))

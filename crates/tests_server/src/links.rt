@@ -70,6 +70,11 @@ fn name_of(ends: &LinkEnd) -> &'static str {
     }
 }
 
+/// A list of one number.
+fn only(alloc: Global, number: u64) -> Seq<u64> {
+    Seq::from_vec(Vec::from_slice(alloc, &[number]).unwrap_or(Vec::new(alloc)))
+}
+
 /// How a link of this text ends, of which at most `piece` bytes come at each read, and what it gets written.
 fn served<T: Wait, G: Gate>(
     rt: &T,
@@ -81,9 +86,25 @@ fn served<T: Wait, G: Gate>(
 ) -> (&'static str, ByteSink)
     requires { 1 ≤ piece }
 {
+    served_failing(rt, alloc, terms, gate, text, piece, 0, 0)
+}
+
+/// The same where the read and the write of these numbers fail; none has the number 0.
+pub(crate) fn served_failing<T: Wait, G: Gate>(
+    rt: &T,
+    alloc: Global,
+    terms: Terms,
+    gate: &mut G,
+    text: &str,
+    piece: usize,
+    read: u64,
+    write: u64,
+) -> (&'static str, ByteSink)
+    requires { 1 ≤ piece }
+{
     let bytes = Seq::of_bytes(alloc, text.as_bytes()).unwrap_or(Seq::new(alloc));
-    let mut source = ByteSource::new(bytes, piece, Seq::new(alloc));
-    let mut sink = ByteSink::new(alloc, Seq::new(alloc));
+    let mut source = ByteSource::new(bytes, piece, only(alloc, read));
+    let mut sink = ByteSink::new(alloc, only(alloc, write));
     let mut clock = StillClock::new(0);
     let ended = serve_link(
         rt,
@@ -157,7 +178,7 @@ pub(crate) fn requests<T: Wait, G: Gate>(rt: &T, alloc: Global, gate: &mut G, te
 }
 
 /// How often a text that is not empty stands in another one.
-fn count_of(text: &[u8], part: &[u8]) -> usize {
+pub(crate) fn count_of(text: &[u8], part: &[u8]) -> usize {
     let mut count = 0usize;
     for place in 0..text.len() {
         if text[place..].starts_with(part) {

@@ -1,9 +1,10 @@
 //! How the runs of a text are judged.
 
-use crate::headers::{Header, header_of, words_of};
+use crate::headers::{Header, bad_setting, header_of, words_of};
 use crate::lines::{is_reply, is_request, push_due};
 use crate::running::run_end;
 use crate::spelling::{push_texts, spelled_out};
+use crate::table_judging::judge_table;
 use command_words::setup_of;
 use size_values::NoMemory;
 use std::alloc::Global;
@@ -182,7 +183,34 @@ fn first_lines(text: &str) -> &str {
     ""
 }
 
-/// Judges the run whose header the text begins with.
+/// Makes a run, and those of the table that its header asks for, and says whether something is wrong.
+fn judge_with_table(alloc: Global, run: Run<'_>, report: &mut String) -> Result<bool, NoMemory> {
+    let is_wrong = judge_run(alloc, run, report)?;
+    let is_table_wrong = judge_table(alloc, run.header, run.script, report)?;
+    Ok(is_wrong || is_table_wrong)
+}
+
+/// Judges a run with these lines.
+fn judge_lines(
+    alloc: Global,
+    header: Header<'_>,
+    lines: &str,
+    tally: &mut Tally,
+    report: &mut String,
+) -> Result<(), NoMemory> {
+    let script = script_of(alloc, header, lines)?;
+    tally.count_lines(script.as_str());
+    let run = Run {
+        header,
+        script: script.as_str(),
+    };
+    let wrong = judge_with_table(alloc, run, report);
+    drop(script);
+    tally.count_run(wrong?);
+    Ok(())
+}
+
+/// Judges the run whose header the text begins with. One with a setting that is none is not made.
 fn judge_first(
     alloc: Global,
     text: &str,
@@ -191,16 +219,13 @@ fn judge_first(
 ) -> Result<(), NoMemory> {
     let (line, _) = text.split_once('\n').unwrap_or((text, ""));
     let header = header_of(line);
-    let script = script_of(alloc, header, first_lines(text))?;
-    tally.count_lines(script.as_str());
-    let run = Run {
-        header,
-        script: script.as_str(),
-    };
-    let wrong = judge_run(alloc, run, report);
-    drop(script);
-    tally.count_run(wrong?);
-    Ok(())
+    match bad_setting(header.settings) {
+        Some(setting) => {
+            tally.count_run(true);
+            push_texts(report, &["~ ", line, "\n  no setting: ", setting, "\n"])
+        }
+        None => judge_lines(alloc, header, first_lines(text), tally, report),
+    }
 }
 
 /// Judges all runs of a text.
@@ -244,14 +269,25 @@ fn judge_rules(
     Ok(wrong)
 }
 
-/// Judges the lines of rules before the first run, and says whether one is wrong.
+/// Reports a line of settings that are to be refused where none of them is, and says whether that is so.
+fn judge_refused(line: &str, report: &mut String) -> Result<bool, NoMemory> {
+    match line.strip_prefix("refused ") {
+        Some(settings) if bad_setting(settings).is_none() => {
+            push_texts(report, &["no setting is refused: ", settings, "\n"])?;
+            Ok(true)
+        }
+        _ => Ok(false),
+    }
+}
+
+/// Judges the lines of rules and of refused settings before the first run, and says whether one is wrong.
 fn judge_head(alloc: Global, text: &str, report: &mut String) -> Result<bool, NoMemory> {
     let (head, runs) = text.split_once(MARK).unwrap_or((text, ""));
     let mut wrong = false;
     for line in head.lines() {
-        if line.starts_with("rules ") && judge_rules(alloc, line, runs, report)? {
-            wrong = true;
-        }
+        let is_told = !line.starts_with("rules ") || !judge_rules(alloc, line, runs, report)?;
+        let is_taken = judge_refused(line, report)?;
+        wrong = wrong || !is_told || is_taken;
     }
     Ok(wrong)
 }

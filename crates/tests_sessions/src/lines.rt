@@ -93,15 +93,23 @@ fn push_reply(alloc: Global, bytes: &mut Vec<u8>, line: &str) -> Result<(), NoMe
     pushed
 }
 
-/// Appends a text, with the bytes for which `\r` and `\n` stand in it.
+/// Appends what stands after a backslash: the byte for which its sign stands, and the rest.
+fn push_break(bytes: &mut Vec<u8>, part: &str) -> Result<(), NoMemory> {
+    if let Some(rest) = part.strip_prefix('r') {
+        return push_texts(bytes, &["\r", rest]);
+    }
+    match part.strip_prefix('0') {
+        Some(rest) => push_texts(bytes, &["\0", rest]),
+        None => push_texts(bytes, &["\n", part.strip_prefix('n').unwrap_or(part)]),
+    }
+}
+
+/// Appends a text, with the bytes for which `\r`, `\n` and `\0` stand in it.
 fn push_breaks(bytes: &mut Vec<u8>, text: &str) -> Result<(), NoMemory> {
     let (first, _) = text.split_once('\\').unwrap_or((text, ""));
     push_texts(bytes, &[first])?;
     for part in text.split('\\').skip(1) {
-        match part.strip_prefix('r') {
-            Some(rest) => push_texts(bytes, &["\r", rest])?,
-            None => push_texts(bytes, &["\n", part.strip_prefix('n').unwrap_or(part)])?,
-        }
+        push_break(bytes, part)?;
     }
     Ok(())
 }
@@ -121,7 +129,7 @@ fn push_raw(bytes: &mut Vec<u8>, line: &str, sign: char) -> Result<(), NoMemory>
 }
 
 /// Appends what is sent for a line.
-fn push_sent(alloc: Global, bytes: &mut Vec<u8>, line: &str) -> Result<(), NoMemory> {
+pub(crate) fn push_sent(alloc: Global, bytes: &mut Vec<u8>, line: &str) -> Result<(), NoMemory> {
     if is_request(line) {
         push_request(alloc, bytes, line)
     } else {

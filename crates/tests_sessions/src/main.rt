@@ -3,11 +3,15 @@
 //! something is wrong. docs/RUNS.md describes the format of the runs.
 #![tactic(auto)]
 
+mod entry_runs;
 mod headers;
 mod judging;
 mod lines;
 mod running;
 mod spelling;
+mod table_judging;
+mod table_runs;
+mod tables;
 
 use crate::judging::judge_text;
 use std::io;

@@ -32,14 +32,19 @@ fn failing_calls(alloc: Global, settings: &str, name: &str) -> Result<Seq<u64>, 
     Ok(Seq::from_vec(numbers_of(alloc, value_of(settings, name))?))
 }
 
-/// The body of an entry after an edit: `+` is one byte more, `-` one fewer, and else the last one is
-/// another one.
+/// The body of an entry after an edit: `+` is one byte more, `-` one fewer, `9` another first one, and else the last
+/// one is another one.
 fn edited(alloc: Global, body: &[u8], edit: &str) -> Result<Seq<u8>, NoMemory> {
     let mut bytes = Vec::from_slice(alloc, body)?;
     match edit {
         "+" => bytes.push(0)?,
         "-" => {
             bytes.pop();
+        }
+        "9" => {
+            if let Some(first) = bytes.first_mut() {
+                *first = 9;
+            }
         }
         _ => {
             if let Some(last) = bytes.pop() {
@@ -51,7 +56,7 @@ fn edited(alloc: Global, body: &[u8], edit: &str) -> Result<Seq<u8>, NoMemory> {
 }
 
 /// The change that edits the entry of this kind and key.
-fn change_of(alloc: Global, entry: &Entry, edit: &str) -> Result<EntryChange, NoMemory> {
+pub(crate) fn change_of(alloc: Global, entry: &Entry, edit: &str) -> Result<EntryChange, NoMemory> {
     let key = entry.key.copy(alloc)?;
     let body = edited(alloc, entry.body.view(), edit)?;
     let edited = Entry {
@@ -79,7 +84,7 @@ fn edits_of(
 }
 
 /// Commits changes, where there was memory for them.
-fn commit(
+pub(crate) fn commit(
     keeper: &mut MapKeeper,
     changes: Result<Seq<EntryChange>, NoMemory>,
 ) -> Result<(), NoMemory> {
