@@ -79,7 +79,7 @@ fn has_done<T: Wait>(rt: &T, alloc: Global, gate: &mut OwnGate, count: usize) ->
 }
 
 /// What a link of a text comes to of which this read and this write fail, over a new server.
-fn tried<T: Wait>(rt: &T, alloc: Global, text: &str, read: u64, write: u64) -> Tried {
+fn try_link<T: Wait>(rt: &T, alloc: Global, text: &str, read: u64, write: u64) -> Tried {
     let Some(mut gate) = new_gate(alloc) else {
         return Tried::Wrong;
     };
@@ -111,7 +111,7 @@ fn tried<T: Wait>(rt: &T, alloc: Global, text: &str, read: u64, write: u64) -> T
 fn count_well<T: Wait>(rt: &T, alloc: Global, text: &str, writes: bool) -> Option<u64> {
     for number in 1..MOST {
         let (read, write) = if writes { (0, number) } else { (number, 0) };
-        match tried(rt, alloc, text, read, write) {
+        match try_link(rt, alloc, text, read, write) {
             Tried::Well => {}
             Tried::NotMade => return Some(number),
             Tried::Wrong => return None,
