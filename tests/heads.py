@@ -14,13 +14,11 @@ status 1 where an answer is otherwise.
 import argparse
 import collections
 import re
-import subprocess
 import sys
-import tempfile
 from pathlib import Path
 
 sys.dont_write_bytecode = True
-from out_of_memory import replies_of, run_all  # noqa: E402
+from out_of_memory import run_all, run_program  # noqa: E402
 from session_runs import DAY, RUNS, request, run_of  # noqa: E402
 
 TOKEN = rb"[!#$%&'*+.^_`|~0-9A-Za-z-]+"
@@ -77,15 +75,6 @@ def told(replies, status):
     if replies and replies[-1][0] == "400" and (found := re.search(r'"rule":"(H[1-4])"', replies[-1][1])):
         rule = found[1]
     return len(replies) - (rule is not None), rule, status
-
-
-def run_program(program, words, cases):
-    """The replies to each text and the exit status, by a program that is made."""
-    came = {}
-    for name, (text, _) in cases.items():
-        ran = subprocess.run([program, "run", "--now", "0", *words], input=text, capture_output=True, check=False)
-        came[name] = (replies_of(ran.stdout), ran.returncode)
-    return came
 
 
 def main():

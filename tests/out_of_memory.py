@@ -1,13 +1,15 @@
 #!/usr/bin/env python3
 """Refuses memory in each part of a session of incus_run, and judges what is answered.
 
-    tests/out_of_memory.py SESSION [--allocation N] [--every N] [WORD..]
+    tests/out_of_memory.py SESSION [--program FILE] [--allocation N] [--every N] [WORD..]
 
 SESSION is a file of requests, as those of examples/, and the words are further ones of `run`: `--boot 1 --steps 0` without any, as
-examples/lifecycle.http wants. Or it is `day`, the run "A day of a user" of crates/tests_sessions/stdin with its own words. The program is run
-by `rt try` (unproved, checked at run time), and the Nth allocation is refused (3,000): once for each of many beginnings of requests that come
-before the session, so that it falls into each part of its first N allocations; with `--every N` for one beginning in N. What is answered must
-be one of these:
+examples/lifecycle.http wants. Or it is `day`, the run "A day of a user" of crates/tests_sessions/stdin with its own words.
+
+FILE is incus_run, built and proved. Each of its allocations is refused in turn, from the first one to the last one of the session, by a
+library that stands before malloc; with `--every N` one in N. Without a FILE the program is run by `rt try` (unproved, checked at run time), and
+its Nth allocation is refused (3,000): once for each of many beginnings of requests that come before the session, so that it falls into each part
+of its first N allocations; with `--every N` for one beginning in N. What is answered must be one of these:
 
 - the replies of the run in which all goes well;
 - those of the run without one request, and in the place of its reply 500 with the rule M1: nothing was changed by it;
@@ -20,8 +22,13 @@ be one of these:
 It prints how many runs there were of each sort, and how often each operation failed for memory. It ends with status 1 where a run is
 none of these, or where an operation never failed so, but of those that are cancelled, which takes no memory.
 """
+import argparse
 import collections
+import itertools
+import mmap
+import os
 import re
+import struct
 import subprocess
 import sys
 import tempfile
@@ -34,6 +41,25 @@ TOP = Path(__file__).resolve().parent.parent
 ALLOCATION = 3000
 # Two requests that take a different number of allocations.
 LONG, SHORT = (b"GET %s HTTP/1.1\r\nHost: localhost\r\n\r\n" % path for path in (b"/", b"/x"))
+# Counts the allocations of a program in a file of two numbers, and refuses the one whose number is the second.
+SHIM = r"""
+typedef unsigned long size;
+extern void *__libc_malloc(size), *__libc_calloc(size, size), *__libc_realloc(void *, size), *__libc_memalign(size, size);
+extern int open(const char *, int, ...);
+extern void *mmap(void *, size, int, int, int, long);
+extern char *getenv(const char *);
+static long *counts;
+__attribute__((constructor)) static void begin(void) {
+    counts = mmap(0, 16, 3, 1, open(getenv("REFUSED_ALLOCATION"), 2), 0);
+}
+static int is_refused(void) { return counts && ++counts[0] == counts[1]; }
+void *malloc(size bytes) { return is_refused() ? 0 : __libc_malloc(bytes); }
+void *calloc(size count, size bytes) { return is_refused() ? 0 : __libc_calloc(count, bytes); }
+void *realloc(void *old, size bytes) { return is_refused() ? 0 : __libc_realloc(old, bytes); }
+void *aligned_alloc(size step, size bytes) { return is_refused() ? 0 : __libc_memalign(step, bytes); }
+void *memalign(size step, size bytes) { return is_refused() ? 0 : __libc_memalign(step, bytes); }
+int posix_memalign(void **to, size step, size bytes) { return (*to = aligned_alloc(step, bytes)) ? 0 : 12; }
+"""
 
 
 def requests_of(text):
@@ -79,6 +105,43 @@ def run_all(words, cases, *flags):
     return {name: (replies.get(name, []), int(ends[name])) for name in cases}
 
 
+def run_program(program, words, cases, environment=None):
+    """The same by a program that is built."""
+    came = {}
+    for name, (session, more) in cases.items():
+        ran = subprocess.run([program, "run", "--now", "0", *words, *more], input=session, capture_output=True, check=False, env=environment)
+        came[name] = (replies_of(ran.stdout), ran.returncode)
+    return came
+
+
+def refused_one_by_one(program, words, text, every):
+    """The replies to a session and the exit status, for each number of an allocation that is refused."""
+    with tempfile.TemporaryDirectory() as folder:
+        source, library, counts = (Path(folder, name) for name in ("shim.c", "shim.so", "counts"))
+        source.write_text(SHIM)
+        subprocess.run(["cc", "-O1", "-shared", "-fPIC", "-o", library, source], check=True)
+        counts.write_bytes(bytes(16))
+        environment = dict(os.environ, LD_PRELOAD=str(library), REFUSED_ALLOCATION=str(counts))
+        with open(counts, "r+b") as file, mmap.mmap(file.fileno(), 16) as seen:
+            for number in itertools.count(1, every):
+                struct.pack_into("2q", seen, 0, 0, number)
+                came = run_program(program, words, {"": (text, [])}, environment)[""]
+                if struct.unpack_from("q", seen)[0] < number:
+                    return
+                yield f"allocation {number}", *came
+
+
+def refused_after_others(words, text, allocation, every):
+    """The same for each beginning of requests after which an allocation of this number falls into the session."""
+    beginnings = [(long, short) for long in range(0, allocation // 20, every) for short in (0, 3)]
+    cases = {f"{long}-{short}": (LONG * long + SHORT * short + text, []) for long, short in beginnings}
+    for name, (replies, status) in run_all(words, cases, "--fail-alloc", str(allocation)).items():
+        before = sum(map(int, name.split("-")))
+        if len(replies) < before or any(is_refused_memory(reply) for reply in replies[:before]):
+            continue  # the allocation fell into what comes before the session
+        yield f"{name} requests before it", replies[before:], status
+
+
 def is_refused_memory(reply):
     return reply[0] == "500" and '"rule":"M1"' in reply[1]
 
@@ -98,15 +161,14 @@ def failed_for_memory(replies):
 
 
 class Session:
-    def __init__(self, text, words):
-        self.text = text
+    def __init__(self, text, words, program):
         self.requests = requests = requests_of(text)
         cases = {"well": (text, [])}
         for at in range(len(requests)):
             cases[f"without-{at}"] = (b"".join(requests[:at] + requests[at + 1:]), [])
             cases[f"keeper-{at}"] = (text, ["--fail-keeper", str(at + 3)])
             cases[f"host-{at}"] = (text, ["--fail-host", str(at + 1)])
-        self.runs = run_all(words, cases)
+        self.runs = run_program(program, words, cases) if program else run_all(words, cases)
         self.well = self.runs["well"][0]
         self.at_a_call, self.at_an_end = (
             [[without_memory(reply) for reply in self.runs[f"{who}-{at}"][0]] for at in range(len(requests))]
@@ -139,44 +201,37 @@ class Session:
         return "WRONG", None
 
 
-def option(words, name, default):
-    """The number behind a word, and the words without both."""
-    if name not in words:
-        return default, words
-    at = words.index(name)
-    return int(words[at + 1]), words[:at] + words[at + 2:]
-
-
-def main(path, words):
-    allocation, words = option(words, "--allocation", ALLOCATION)
-    every, words = option(words, "--every", 1)
+def main():
+    parser = argparse.ArgumentParser(description=__doc__, formatter_class=argparse.RawDescriptionHelpFormatter, allow_abbrev=False)
+    parser.add_argument("session")
+    parser.add_argument("--program")
+    parser.add_argument("--allocation", type=int, default=ALLOCATION)
+    parser.add_argument("--every", type=int, default=1)
+    said, words = parser.parse_known_args()
     of_day, day = bytes_of(DAY)
-    text = day if path == "day" else Path(path).read_bytes()
-    words = words or (of_day[2:] if path == "day" else ["--boot", "1", "--steps", "0"])
-    session = Session(text, words)
-    beginnings = [(long, short) for long in range(0, allocation // 20, every) for short in (0, 3)]
-    cases = {f"{long}-{short}": (LONG * long + SHORT * short + session.text, []) for long, short in beginnings}
+    text = day if said.session == "day" else Path(said.session).read_bytes()
+    words = words or (of_day[2:] if said.session == "day" else ["--boot", "1", "--steps", "0"])
+    session = Session(text, words, said.program)
+    if said.program:
+        came = refused_one_by_one(said.program, words, text, said.every)
+    else:
+        came = refused_after_others(words, text, said.allocation, said.every)
     sorts, ends, wrong = collections.Counter(), collections.Counter(), []
-    for name, (replies, status) in run_all(words, cases, "--fail-alloc", str(allocation)).items():
-        before = sum(map(int, name.split("-")))
-        if len(replies) < before or any(is_refused_memory(reply) for reply in replies[:before]):
-            continue  # the allocation fell into what comes before the session
-        what, operation = session.sort(replies[before:], status)
+    for name, replies, status in came:
+        what, operation = session.sort(replies, status)
         sorts[what] += 1
         ends[operation] += operation is not None
         if what == "WRONG":
-            wrong.append((name, status, replies[before:]))
+            wrong.append((name, status, replies))
     for what, count in sorts.most_common():
         print(f"{count:6} {what}")
     for operation in session.operations:
         print(f"operation {operation}: failed for memory in {ends[operation]} runs")
     for name, status, replies in wrong[:3]:
-        print(f"wrong after {name} requests, status {status}:", *replies, sep="\n")
+        print(f"wrong at {name}, status {status}:", *replies, sep="\n")
     missed = [number for number in session.operations if not ends[number] and number not in session.cancelled]
     return 1 if wrong or missed or not session.operations else 0
 
 
 if __name__ == "__main__":
-    if len(sys.argv) < 2:
-        sys.exit(__doc__)
-    sys.exit(main(sys.argv[1], sys.argv[2:]))
+    sys.exit(main())
