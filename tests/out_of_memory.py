@@ -153,11 +153,17 @@ def without_memory(reply):
 
 
 def failed_for_memory(replies):
-    """The number of the operation that a reply tells to have failed so."""
+    """The number of the operation that a reply tells to have failed so, or that a list of operations has as the only failed one."""
     for _, body in replies:
-        if found := re.search(r'"err":"no memory","id":"([^"]*)"', body):
+        found = re.search(r'"err":"no memory","id":"([^"]*)"', body) or re.search(r'"failure":\["/1\.0/operations/([^"]*)"\]', body)
+        if found:
             return int(found[1][-12:], 16)
     return None
+
+
+def tells_error(reply):
+    """Whether a reply shows an instance whose status is `Error`, or refuses a request for it."""
+    return '"status":"Error"' in reply[1] or '"key":"Error"' in reply[1] and '"rule":"B2"' in reply[1]
 
 
 class Session:
@@ -196,7 +202,7 @@ class Session:
         operation = failed_for_memory(replies)
         if operation and replies in self.at_a_call:
             return "an operation without memory, at a call or at an end that leaves as much", operation
-        if operation and (replies in self.at_an_end or any('"status":"Error"' in body for _, body in replies)):
+        if operation and (replies in self.at_an_end or any(map(tells_error, replies))):
             return "an operation without memory, at its end", operation
         return "WRONG", None
 
