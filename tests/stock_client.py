@@ -2,6 +2,7 @@
 """Runs the stock client, the command `incus` 6.0.4, against incusd over a Unix socket; nothing stands between them.
 
     tests/stock_client.py [--program FILE] [--only WORD] [--table] [--together N]
+    tests/stock_client.py --incus [--only WORD] [--table]
 
 The program is crates/incusd/out/incusd without `--program` (`bin/incusd --prove` makes it). The client is in Debian's backports:
 
@@ -14,6 +15,10 @@ has to say so here. No command may take longer than 20 seconds.
 
 `--table` prints the commands that do not end well here, each with the reason and with the last line that the client printed.
 `--together N` runs all commands N times over one server, beside 8 `incus monitor`: none may hang.
+
+`--incus` runs the commands on Incus 6.0.4 itself, as root, and prints those that end well there and not here, and how many of those that end
+well there do so here. It needs also the packages incus-base, busybox-static (a container's image is made of it), dnsmasq-base and nftables.
+A command of which this table says that nothing is printed of it here, `monitor` and `top`, counts on neither side.
 
 It ends with status 1 where something is otherwise.
 """
@@ -36,9 +41,9 @@ TOP = Path(__file__).resolve().parent.parent
 # How long a command may take, in seconds.
 PATIENCE = 20
 PACKAGES = "apt-get install -y -t bookworm-backports --no-install-recommends incus-client"
-# How many of the commands of this table end well on Incus 6.0.4 itself, and the least part of them that has to end well here.
-WELL_ON_INCUS = None
+# The least part of the commands which end well on Incus 6.0.4 itself that has to end well here.
 LEAST = 0.93
+INCUS = "/usr/libexec/incus/incusd"
 
 ROOT = {"path": "/", "pool": "p0", "size": "1GiB", "type": "disk"}
 # The requests that make a state, by its word; each may stand on those before it.
@@ -440,6 +445,94 @@ class Server:
         shutil.rmtree(self.folder, ignore_errors=True)
 
 
+class Incus(Server):
+    """Incus itself, in a folder of its own. Its instances are made of a small image, so that they can run."""
+
+    def __init__(self, image):
+        self.folder = tempfile.mkdtemp(prefix="stock-client-")
+        self.path = os.path.join(self.folder, "unix.socket")
+        self.log = open(os.path.join(self.folder, "log"), "w", encoding="utf-8")
+        self.process = subprocess.Popen([INCUS], env={**os.environ, "INCUS_DIR": self.folder}, stdin=subprocess.DEVNULL, stdout=self.log,
+                                        stderr=self.log, start_new_session=True)
+        end = time.monotonic() + 3 * PATIENCE
+        while not self.answers():
+            if time.monotonic() > end or self.process.poll() is not None:
+                raise SystemExit("Incus did not begin")
+            time.sleep(0.1)
+        self.client(["image", "import", image, "--alias", "small"])
+
+    def answers(self):
+        try:
+            return self.ask("GET", "/1.0")[0] == 200
+        except OSError:
+            return False
+
+    def client(self, words):
+        environment = {"PATH": os.environ["PATH"], "HOME": self.folder, "INCUS_CONF": self.folder, "INCUS_SOCKET": self.path}
+        subprocess.run(["incus", *words], env=environment, check=True, capture_output=True, stdin=subprocess.DEVNULL, timeout=PATIENCE)
+
+    def ask(self, method, target, body=None):
+        if body is not None and body.get("source", {}).get("type") == "none":
+            body = {**body, "source": {"type": "image", "alias": "small"}}
+        if method == "POST" and target == "/1.0/networks":
+            body = {**body, "config": {"ipv4.address": "none", "ipv6.address": "none"}}
+        return super().ask(method, target, body)
+
+    def stop(self):
+        self.process.kill()
+        self.process.wait()
+        self.log.close()
+        for word in ("lxc monitor", "forkstart"):
+            subprocess.run(["pkill", "-9", "-f", f"{word}.*{self.folder}"], check=False)
+        mounts = [line.split()[1] for line in Path("/proc/mounts").read_text(encoding="utf-8").splitlines()]
+        for path in reversed([it for it in mounts if it.startswith(f"{self.folder}/")]):
+            subprocess.run(["umount", "-l", path], check=False, capture_output=True)
+        subprocess.run(["ip", "link", "delete", "n0"], check=False, capture_output=True)
+        shutil.rmtree(self.folder, ignore_errors=True)
+
+
+def small_image(folder):
+    """An image whose first process waits."""
+    root = Path(folder, "image", "rootfs")
+    for name in ("bin", "sbin", "etc", "proc", "sys", "dev", "tmp", "root"):
+        (root / name).mkdir(parents=True)
+    shutil.copy("/bin/busybox", root / "bin/busybox")
+    for name in ("sh", "sleep", "true", "cat", "ls"):
+        (root / "bin" / name).symlink_to("busybox")
+    init = root / "sbin/init"
+    init.write_text('#!/bin/busybox sh\ntrap "exit 0" TERM PWR INT\nwhile true; do /bin/busybox sleep 1; done\n', encoding="utf-8")
+    init.chmod(0o755)
+    Path(folder, "image/metadata.yaml").write_text("architecture: x86_64\ncreation_date: 1\nproperties:\n  os: busybox\n", encoding="utf-8")
+    target = str(Path(folder, "small.tar.gz"))
+    subprocess.run(["tar", "-C", str(Path(folder, "image")), "-czf", target, "metadata.yaml", "rootfs"], check=True)
+    return target
+
+
+def compare(entries, shows_table):
+    """How many of the commands that end well on Incus itself end well here, by the table."""
+    counted = [entry for entry in entries if entry["words"][0] not in ("monitor", "top")]
+    there = both = 0
+    with tempfile.TemporaryDirectory() as folder:
+        image = small_image(folder)
+        for entry in counted:
+            server = Incus(image)
+            try:
+                server.make(entry["states"])
+                well, _, printed = run(server, entry)
+            finally:
+                server.stop()
+            there += well
+            both += well and entry["reason"] is None
+            state = f" (after {', '.join(entry['states'])})" if entry["states"] else ""
+            if well and entry["reason"] is not None:
+                print(f"incus {entry['command']}{state}: ends well on Incus alone: {entry['reason']}", flush=True)
+            elif shows_table and not well and entry["reason"] != BOTH:
+                print(f"incus {entry['command']}{state}: does not end well on Incus: {last_line(printed)}", flush=True)
+    part = both / there if there else 0
+    print(f"{len(counted)} commands, {there} end well on Incus, {both} of them here: {100 * part:.1f} %")
+    return part >= LEAST
+
+
 def run(server, entry):
     """Runs a command: whether it ended well, whether it hung, and what it printed."""
     home = os.path.join(server.folder, "home")
@@ -521,12 +614,15 @@ def main():
     words.add_argument("--only", default="")
     words.add_argument("--table", action="store_true")
     words.add_argument("--together", type=int, default=0)
+    words.add_argument("--incus", action="store_true")
     given = words.parse_args()
     if shutil.which("incus") is None:
         print(f"skipped: the client is not installed: {PACKAGES}")
         return 0
     entries = [entry for entry in COMMANDS if given.only in entry["command"]]
-    if given.together:
+    if given.incus:
+        is_well = compare(entries, given.table)
+    elif given.together:
         is_well = together(given.program, entries, given.together)
     else:
         is_well = judge(given.program, entries, given.table)
