@@ -1,0 +1,11 @@
+pub mod Complete
+pub mod Computed
+pub mod Frames
+pub mod Held
+pub mod Meanings
+pub mod Runs
+pub mod Spelled
+pub mod Texts
+pub mod Turns
+pub mod Ways
+pub mod Readings

@@ -1,0 +1,4 @@
+pub mod Laws
+pub mod Taking
+pub mod Urls
+pub mod Values
