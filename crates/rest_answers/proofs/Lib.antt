@@ -1,3 +1,4 @@
+mod Cut
 pub mod ForClients
 pub mod Linking
 pub mod Printing

@@ -1,5 +1,5 @@
 -- Replies that take no memory, the head of a reply, and what is written for an answer.
-use Rattle.std.proofs.Common.{◌≡◌, ◌≢◌, ◌≤◌, ◌+◌, ◌-◌, ◌++◌, ℕ, Bool, false, if◌then◌else◌, List, [], length, take, ap, sym, ◌∙◌}
+use Rattle.std.proofs.Common.{◌≡◌, ◌≢◌, ◌≤◌, ◌+◌, ◌-◌, ◌++◌, ℕ, Bool, true, false, refl, if◌then◌else◌, List, [], length, take, ap, sym, ◌∙◌}
 use Rattle.std.proofs.Common.{arith}
 use Rattle.std.proofs.lemmas.List.{length-append}
 use Rattle.std.proofs.Math.Seq.{take-append_seam}
@@ -9,9 +9,10 @@ use Rattle.http_front.specs.Replies.{head_text, reply_text}
 use Rattle.records.specs.declared.replies.Reply.{Reply}
 use Rattle.records.specs.declared.replies.Reply.TheVariants as reply
 use Rattle.rest_json.specs.declared.terms.Terms.{Terms}
-use Rattle.rest_replies.specs.Replies.{NoMemoryIsKnown, printed_of}
+use Rattle.rest_replies.specs.Replies.{NoMemoryIsKnown, printed_of, stands_ready}
 use Rattle.rest_answers.specs.Texts.{HasText, IsUnprinted, asks_head, no_memory_printed, no_memory_text, printed}
 use Rattle.rest_answers.specs.Texts.{text_for, text_to}
+use Rattle.rest_answers.specs.Told.{told_to}
 use Rattle.rest_answers.specs.declared.answers.PrintedReply.{PrintedReply}
 use Rattle.rest_answers.specs.declared.answers.PrintedReply.TheVariants as written
 
@@ -51,14 +52,22 @@ no_memory_is_printed terms request known = ap
     (λ body. text_to request (record { code = 500; body = body; location = []; last = request.last }))
     (sym (known terms))
 
--- a reply that is not to a HEAD has its body
+-- a reply that stands ready is told as it is
+pub ready_told : (r : Reply) (last : Bool) (request : Request) (terms : Terms) → stands_ready r last ≡ true
+    → told_to request terms r ≡ r
+ready_told (reply.Many views) true request terms ready = cc
+ready_told (reply.Many views) false request terms ready = cc
+ready_told other last request terms ready = refl
+
+-- what is told to a request that is not a HEAD has its body
 pub whole_printed : (r : Reply) (terms : Terms) (request : Request) → request.last ≡ false → asks_head request ≡ false
-    → printed r terms request ≡ reply_text (printed_of r terms false)
+    → printed r terms request ≡ reply_text (printed_of (told_to request terms r) terms false)
 unfolding printed
 whole_printed r terms request stays by_get =
-    ap (λ head. if head then head_text (printed_of r terms request.last) else reply_text (printed_of r terms request.last))
+    let told = told_to request terms r in
+    ap (λ head. if head then head_text (printed_of told terms request.last) else reply_text (printed_of told terms request.last))
     by_get
-    ∙ ap (λ last. reply_text (printed_of r terms last)) stays
+    ∙ ap (λ last. reply_text (printed_of told terms last)) stays
 
 -- what is written for an answer is the text of its reply, unless memory for it was refused
 pub text_is : (a : PrintedReply) (r : Reply) (terms : Terms) (request : Request) → HasText a r terms request

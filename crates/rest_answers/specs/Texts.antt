@@ -14,6 +14,7 @@ use Rattle.row_machine.specs.machine.Refusals.{plain_refusal}
 use Rattle.rest_json.specs.declared.terms.Dialect.TheVariants as dialect
 use Rattle.rest_json.specs.declared.terms.Terms.{Terms}
 use Rattle.rest_replies.specs.Replies.{printed_of}
+use Rattle.rest_answers.specs.Told.{told_to}
 use Rattle.rest_answers.specs.declared.answers.PrintedReply.{PrintedReply}
 use Rattle.rest_answers.specs.declared.answers.PrintedReply.TheVariants as written
 
@@ -28,7 +29,7 @@ text_to request printed = if asks_head request then head_text printed else reply
 
 -- the bytes of the reply to a request, which says where the connection ends after it
 unfoldable pub printed : Reply → Terms → Request → List ℕ
-printed reply terms request = text_to request (printed_of reply terms request.last)
+printed reply terms request = text_to request (printed_of (told_to request terms reply) terms request.last)
 
 -- all bytes of a reply, with its body
 unfoldable pub whole_text : Reply → Terms → Bool → List ℕ

@@ -1,18 +1,22 @@
 //! What is written for a reply.
 ghost use Rattle.std.specs.Prelude.{◌≡◌, true, false, IfOk, IsTrue};
 ghost use Rattle.http_heads.specs.declared.request.Request.{Request as RequestValue};
-ghost use Rattle.http_front.specs.Replies.{head_text, is_reply_code};
+ghost use Rattle.http_front.specs.Replies.{head_text, is_reply_code, reply_text};
 ghost use Rattle.records.specs.declared.replies.Reply.TheVariants as reply;
 ghost use Rattle.records.specs.declared.replies.View.TheVariants as view;
 ghost use Rattle.row_machine.specs.machine.Refusals.{plain_refusal};
 ghost use Rattle.rest_replies.specs.Replies.{printed_of};
 ghost use Rattle.rest_answers.specs.Texts.{HasText, IsUnprinted, asks_head, malformed_text, no_memory_printed};
 ghost use Rattle.rest_answers.specs.Texts.{no_memory_text, no_terms, printed, rule_of, whole_text};
+ghost use Rattle.rest_answers.specs.Told.{told_to};
 
 use crate::reply_text::ReplyText;
 use http_front::{HeadFault, Printed, Request, no_memory_reply, reply_bytes};
 use records::{Refusal, Reply, Rule};
-use rest_replies::{Dialect, Terms, known_reply, no_memory_is_known, print, server_text};
+use rest_replies::{
+    Dialect, Terms, known_reply, no_memory_is_known, print, print_chosen, server_text,
+};
+use rest_routes::{list_query, wants_objects};
 use rules_refusals::no_details;
 use size_values::{NoMemory, Seq};
 use std::alloc::Global;
@@ -57,21 +61,58 @@ fn head_text(alloc: Global, printed: &Printed) -> Result<Seq<u8>, NoMemory>
     Seq::of_bytes(alloc, &whole.view()[..len])
 }
 
-/// The head of the reply to a request, as HEAD is answered.
-fn made_head(
+/// What is told to a request of a reply, as it is printed: of a list with a filter, the objects that it chooses.
+fn print_told(
+    alloc: Global,
+    reply: &Reply,
+    terms: Terms,
+    request: &Request,
+) -> Result<Printed, NoMemory>
+    ensures text { IfOk result
+        (λ p. p ≡ printed_of (told_to request.now terms reply.now) terms request.now.last) }
+    ensures code { IfOk result (λ p. IsTrue (is_reply_code p.code)) }
+{
+    if let Reply::Many(views) = reply {
+        if let Some(query) = list_query(alloc, terms.dialect, request.target.view())? {
+            if let Some(choice) = &query.filter {
+                let whole = wants_objects(&query);
+                return print_chosen(alloc, views, choice, whole, terms, request.last);
+            }
+        }
+    }
+    print(alloc, reply, terms, request.last)
+}
+
+/// The head of what is told to a request, as HEAD is answered.
+fn told_head(
     alloc: Global,
     reply: &Reply,
     terms: Terms,
     request: &Request,
 ) -> Result<Seq<u8>, NoMemory>
-    ensures { IfOk result (λ bytes. bytes ≡ head_text (printed_of reply.now terms request.now.last)) }
+    ensures { IfOk result
+        (λ bytes. bytes ≡ head_text (printed_of (told_to request.now terms reply.now) terms request.now.last)) }
 {
-    let printed = print(alloc, reply, terms, request.last)?;
+    let printed = print_told(alloc, reply, terms, request)?;
     head_text(alloc, &printed)
 }
 
+/// All bytes of what is told to a request.
+fn told_text(
+    alloc: Global,
+    reply: &Reply,
+    terms: Terms,
+    request: &Request,
+) -> Result<Seq<u8>, NoMemory>
+    ensures { IfOk result
+        (λ bytes. bytes ≡ reply_text (printed_of (told_to request.now terms reply.now) terms request.now.last)) }
+{
+    let printed = print_told(alloc, reply, terms, request)?;
+    reply_bytes(alloc, &printed)
+}
+
 /// The bytes of the reply to a request: those that stand ready, or else they are made.
-#[tactic(auto, unfolding(crate::specs::Texts::printed, crate::specs::Texts::whole_text))]
+#[tactic(auto, unfolding(crate::specs::Texts::printed), using(crate::proofs::Printing::ready_told))]
 fn text_of(
     alloc: Global,
     reply: &Reply,
@@ -81,11 +122,11 @@ fn text_of(
     ensures { IfOk result (λ bytes. bytes ≡ printed reply.now terms request.now) }
 {
     if asks_head(request) {
-        return Ok(ReplyText::made(made_head(alloc, reply, terms, request)?));
+        return Ok(ReplyText::made(told_head(alloc, reply, terms, request)?));
     }
     match known_reply(reply, terms, request.last) {
         Some(text) => Ok(ReplyText::ready(text)),
-        None => Ok(ReplyText::made(whole_text(alloc, reply, terms, request.last)?)),
+        None => Ok(ReplyText::made(told_text(alloc, reply, terms, request)?)),
     }
 }
 

@@ -1,4 +1,5 @@
 pub mod Refusals
+pub mod Chosen
 pub mod Replies
 pub mod Notices
 pub mod WordExamples

@@ -11,6 +11,6 @@ mod refusals;
 pub use known::{known_reply, server_text};
 pub use laws::{no_memory_is_known, refusals_in_words};
 pub use notices::print_notice;
-pub use printing::print;
+pub use printing::{print, print_chosen};
 pub use refusals::rule_name;
 pub use rest_json::{Dialect, Terms, id_text, ids_read_back, number_of};

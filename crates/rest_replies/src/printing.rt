@@ -1,18 +1,23 @@
 //! Replies: the code, the Location and the body of each.
-ghost use Rattle.std.specs.Prelude.{◌≡◌, ◌++◌, [], false, map, IfOk, IsTrue};
+ghost use Rattle.std.specs.Prelude.{◌≡◌, ◌++◌, [], Some, false, map, IfOk, IsTrue};
+ghost use Rattle.std.specs.Option.{option_copied};
 ghost use Rattle.http_front.specs.Replies.{is_reply_code};
 ghost use Rattle.serde_json.specs.View.{view};
 ghost use Rattle.serde_json.specs.Written.{has_float, compact_text};
+ghost use Rattle.list_filter.specs.Urls.{view_url};
 ghost use Rattle.rest_json.specs.Objects.{list_of};
 ghost use Rattle.rest_json.specs.Settings.{texts_data};
 ghost use Rattle.rest_json.specs.Views.{view_data};
+ghost use Rattle.rest_replies.specs.Chosen.{chosen, chosen_reply, is_chosen};
 ghost use Rattle.rest_replies.specs.Refusals.{refusal_data};
 ghost use Rattle.rest_replies.specs.Replies.{success_data, nothing_data, started_data, urls_data, by_status, operations_data};
 ghost use Rattle.rest_replies.specs.Replies.{whole_by_status, no_memory_refusal, reply_data, reply_code};
 ghost use Rattle.rest_replies.specs.Replies.{reply_location, printed_of};
 
 use crate::refusals::{refusal_value, rule_code};
+use filter_texts::Choice;
 use http_front::Printed;
+use list_filter::{takes, url_of_view};
 use records::{Details, OpView, Refusal, Reply, Rule, Status, View};
 use rest_json::{
     Dialect, JsonText, Object, Terms, operation_url, operation_value, status_key, write_operation,
@@ -80,33 +85,92 @@ fn one_body(alloc: Global, terms: Terms, shown: &View) -> Result<Seq<u8>, NoMemo
     Ok(text.into_bytes())
 }
 
-/// Objects of any kind, as a list.
+/// Whether a filter chooses an object; without one each is chosen.
+fn is_chosen(
+    alloc: Global,
+    terms: Terms,
+    choice: Option<&Choice>,
+    shown: &View,
+) -> Result<bool, NoMemory>
+    ensures { IfOk result (λ b. b ≡ is_chosen terms (option_copied choice.entry) shown.now) }
+{
+    match choice {
+        Some(choice) => takes(alloc, terms, choice, shown),
+        None => Ok(true),
+    }
+}
+
+/// The chosen objects of any kind, as a list.
 fn write_views(
     text: JsonText,
     alloc: Global,
     terms: Terms,
+    choice: Option<&Choice>,
     views: &Seq<View>,
 ) -> Result<JsonText, NoMemory>
-    ensures { IfOk result
-        (λ t. t ≡ text ++ compact_text (list_of (map (view_data terms) views.now))) }
+    ensures { IfOk result (λ t. t ≡ text ++ compact_text (list_of (map (view_data terms)
+        (chosen terms (option_copied choice.entry) views.now)))) }
 {
     let mut written = text.plain("[")?;
     let mut later = false;
     for shown in views.view() {
-        written = write_view(written.comma(later)?, alloc, terms, shown)?;
-        later = true;
+        if is_chosen(alloc, terms, choice, shown)? {
+            written = write_view(written.comma(later)?, alloc, terms, shown)?;
+            later = true;
+        }
     }
     written.plain("]")
 }
 
-/// The reply that tells of objects.
-fn many_body(alloc: Global, terms: Terms, views: &Seq<View>) -> Result<Seq<u8>, NoMemory>
-    ensures { IfOk result
-        (λ b. b ≡ compact_text (success_data (list_of (map (view_data terms) views.now)))) }
+/// The reply that tells of chosen objects.
+fn many_body(
+    alloc: Global,
+    terms: Terms,
+    choice: Option<&Choice>,
+    views: &Seq<View>,
+) -> Result<Seq<u8>, NoMemory>
+    ensures { IfOk result (λ b. b ≡ compact_text (success_data (list_of (map (view_data terms)
+        (chosen terms (option_copied choice.entry) views.now))))) }
 {
     let front = JsonText::new(alloc, 1_024)?.plain(FRONT)?;
-    let text = write_views(front, alloc, terms, views)?.plain(BACK)?;
+    let text = write_views(front, alloc, terms, choice, views)?.plain(BACK)?;
     Ok(text.into_bytes())
+}
+
+/// The URLs of the objects that a filter chooses.
+fn chosen_urls(
+    alloc: Global,
+    terms: Terms,
+    choice: &Choice,
+    views: &Seq<View>,
+) -> Result<Seq<Text>, NoMemory>
+    ensures { IfOk result (λ urls. urls ≡ map view_url (chosen terms (Some choice.now) views.now)) }
+{
+    let mut urls = Seq::new(alloc);
+    for shown in views.view() {
+        if takes(alloc, terms, choice, shown)? {
+            urls.push(url_of_view(alloc, shown)?)?;
+        }
+    }
+    Ok(urls)
+}
+
+/// The reply that tells of the objects that a filter chooses, whole or by their URLs.
+fn chosen_body(
+    alloc: Global,
+    terms: Terms,
+    choice: &Choice,
+    whole: bool,
+    views: &Seq<View>,
+) -> Result<Seq<u8>, NoMemory>
+    ensures { IfOk result
+        (λ b. b ≡ compact_text (reply_data terms (chosen_reply terms (Some choice.now) whole views.now))) }
+{
+    if whole {
+        return many_body(alloc, terms, Some(choice), views);
+    }
+    let urls = chosen_urls(alloc, terms, choice, views)?;
+    urls_body(alloc, &urls)
 }
 
 /// The reply to a command that began an operation.
@@ -241,7 +305,7 @@ fn reply_body(alloc: Global, terms: Terms, reply: &Reply) -> Result<Seq<u8>, NoM
         Reply::Empty => empty_body(alloc, terms.dialect),
         Reply::Links(urls) => urls_body(alloc, urls),
         Reply::One(shown) => one_body(alloc, terms, shown),
-        Reply::Many(views) => many_body(alloc, terms, views),
+        Reply::Many(views) => many_body(alloc, terms, None, views),
         Reply::OpLinks(groups) => by_status_body(alloc, terms.boot, groups),
         Reply::OpMany(groups) => whole_by_status_body(alloc, terms.boot, groups),
         Reply::Started(operation) => started_body(alloc, terms.boot, operation),
@@ -296,6 +360,29 @@ pub fn print(alloc: Global, reply: &Reply, terms: Terms, last: bool) -> Result<P
         code: reply_code(reply),
         body: reply_body(alloc, terms, reply)?,
         location: reply_location(alloc, terms.boot, reply)?,
+        last,
+    })
+}
+
+/// The list of the objects that a filter chooses as it is printed, whole or by their URLs. With `last` the connection
+/// ends after the reply.
+#[tactic(auto, unfolding(crate::specs::Replies::printed_of))]
+pub fn print_chosen(
+    alloc: Global,
+    views: &Seq<View>,
+    choice: &Choice,
+    whole: bool,
+    terms: Terms,
+    last: bool,
+) -> Result<Printed, NoMemory>
+    ensures text { IfOk result
+        (λ p. p ≡ printed_of (chosen_reply terms (Some choice.now) whole views.now) terms last) }
+    ensures code { IfOk result (λ p. IsTrue (is_reply_code p.code)) }
+{
+    Ok(Printed {
+        code: 200,
+        body: chosen_body(alloc, terms, choice, whole, views)?,
+        location: Text::new(alloc),
         last,
     })
 }

@@ -13,6 +13,7 @@ use Rattle.rest_routes.proofs.Timeouts.{timeout_formed}
 use Rattle.rest_routes.specs.Answers.{Reads, mapped, followed}
 use Rattle.rest_routes.specs.Paths.{path_of}
 use Rattle.rest_routes.specs.Endpoints.{line_of, verb_offered}
+use Rattle.rest_routes.specs.Filters.{takes_filter}
 use Rattle.rest_routes.specs.Leniencies.{Asked, as_plain}
 use Rattle.rest_routes.specs.Queries.{query_of, project_of, wait_timeout}
 use Rattle.rest_routes.specs.declared.endpoints.Line.{Line}
@@ -44,7 +45,8 @@ after_any (Err refusal) f fine = tt
 plain_formed : (asked : Asked) (boot : ℕ) → CommandIsFormed (plain_command asked boot)
 unfolding plain_command
 plain_formed asked boot =
-    after_good (λ query. is_timeout (wait_timeout query) ≡ true) (query_of asked.pairs) _ (timeout_formed asked.pairs) (λ query time.
+    after_good (λ query. is_timeout (wait_timeout query) ≡ true) (query_of (takes_filter asked.endpoint asked.verb) asked.pairs) _
+    (timeout_formed (takes_filter asked.endpoint asked.verb) asked.pairs) (λ query time.
     in_project (project_of query) _ (asked_formed asked.endpoint asked.verb asked.path query boot asked.body time))
 
 at_line : (line : Line) (request : Request) (terms : Terms) → CommandIsFormed (command_at line request terms)

@@ -18,7 +18,7 @@ use Rattle.rest_routes.specs.declared.endpoints.Verb.{Verb}
 use Rattle.std.specs.Prelude.{ok_or}
 
 -- in each dialect a request that a path offers is read in plain
-asks : (request : Request) (line : Line) (verb : Verb) (terms : Terms) → IsAsked request line verb
+pub asks : (request : Request) (line : Line) (verb : Verb) (terms : Terms) → IsAsked request line verb
     → command_of request terms ≡ told (plain_command (as_plain terms.dialect (asked_at line verb request)) terms.boot)
 unfolding command_of command_at
 asks request line verb terms is =

@@ -5,6 +5,7 @@ pub mod Taken
 pub mod Timeouts
 mod Events
 pub mod Server
+mod ByFilter
 mod ByGet
 mod FormedBodies
 mod FormedCommands

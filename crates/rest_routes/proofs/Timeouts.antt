@@ -8,6 +8,7 @@ use Rattle.std.specs.Char.{is_ascii_digit}
 use Rattle.std.specs.Str.{bytes_eq}
 use Rattle.std.specs.Str.Parse.{digits_value}
 use Rattle.form_urlencoded.specs.Form.{raw_pairs}
+use Rattle.filter_texts.specs.declared.choice.Step.{Step}
 use Rattle.size_values.specs.Count.{count_of}
 use Rattle.size_values.specs.Reading.{reading, fault_if, stray, is_too_large, is_outside}
 use Rattle.size_values.specs.declared.fault.ValueFault.{ValueFault}
@@ -17,7 +18,7 @@ use Rattle.records.specs.declared.refusals.Refusal.{Refusal}
 use Rattle.rest_routes.specs.Answers.{followed}
 use Rattle.records.specs.declared.refusals.Rule.TheVariants as rule
 use Rattle.rest_routes.specs.Refusals.{on_key}
-use Rattle.rest_routes.specs.Queries.{text_of, project_after, recursion_of, has_leading_zero, timeout_seconds, timeout_of, types_of, no_query, flags_after, query_after, query_in, query_of, wait_timeout}
+use Rattle.rest_routes.specs.Queries.{text_of, project_after, recursion_of, has_leading_zero, timeout_seconds, timeout_of, types_of, no_query, flags_after, filter_after, query_after, query_in, query_of, wait_timeout}
 use Rattle.rest_routes.specs.declared.query.Flags.{Flags}
 use Rattle.rest_routes.specs.declared.query.Query.{Query}
 use Rattle.rest_routes.specs.declared.query.Types.{Types}
@@ -88,7 +89,7 @@ flags_fine flags key value h =
     by (bytes_eq key (codes "recursion") && not (is_some flags.recursion)) (recursion_of value)
     (bytes_eq key (codes "timeout") && not (is_some flags.timeout)) (timeout_of value) (timeout_fine value)
     (bytes_eq key (codes "type") && not (is_some flags.types)) (types_of value)
-    (bytes_eq key (codes "all-projects") || bytes_eq key (codes "filter"))
+    (bytes_eq key (codes "all-projects"))
   where
     by : (a : Bool) (r : Option Bool) (b : Bool) (time : Option ℤ) → is_fine time ≡ true → (c : Bool) (d : Option Types) (e : Bool)
         → FlagsFine (cond a (option_map (λ (r : Bool). record flags { recursion = Some r }) r)
@@ -104,14 +105,17 @@ flags_fine flags key value h =
     by false r false time k false d true = tt
     by false r false time k false d false = h
 
-query_fine : (query : Query) (key value : List ℕ) → QueryFine query → IfOk (query_after query key value) QueryFine
+query_fine : (taken : Bool) (query : Query) (key value : List ℕ) → QueryFine query → IfOk (query_after taken query key value) QueryFine
 unfolding query_after
-query_fine query key value h = by (flags_after query.flags key value) (flags_fine query.flags key value h)
+query_fine taken query key value h =
+    by (flags_after query.flags key value) (flags_fine query.flags key value h) (filter_after taken query.filter key value)
   where
-    by : (o : Option Flags) → FlagsFine o
-        → IfOk (followed (ok_or o (on_key rule.A3 key)) (λ flags. Ok (record { project = project_after query.project key value; flags = flags }))) QueryFine
-    by None k = tt
-    by (Some flags) k = k
+    by : (o : Option Flags) → FlagsFine o → (f : Option (Option (List Step)))
+        → IfOk (followed (ok_or o (on_key rule.A3 key)) (λ flags. followed (ok_or f (on_key rule.A3 key)) (λ filter.
+        Ok (record { project = project_after query.project key value; flags = flags; filter = filter })))) QueryFine
+    by None k f = tt
+    by (Some flags) k None = tt
+    by (Some flags) k (Some filter) = k
 
 next_fine : (answer : Result Query Refusal) (next : Query → Result Query Refusal) → IfOk answer QueryFine
     → ((query : Query) → QueryFine query → IfOk (next query) QueryFine)
@@ -119,14 +123,14 @@ next_fine : (answer : Result Query Refusal) (next : Query → Result Query Refus
 next_fine (Err refusal) next h k = tt
 next_fine (Ok query) next h k = k query h
 
-pairs_fine : (pairs : List (List ℕ × List ℕ)) (query : Query) → QueryFine query → IfOk (query_in query pairs) QueryFine
-pairs_fine [] query h = h
-pairs_fine ((key, value) ∷ pairs) query h =
-    next_fine (query_after query (text_of key) (text_of value)) _ (query_fine query (text_of key) (text_of value) h) (λ next k. pairs_fine pairs next k)
+pairs_fine : (taken : Bool) (pairs : List (List ℕ × List ℕ)) (query : Query) → QueryFine query → IfOk (query_in taken query pairs) QueryFine
+pairs_fine taken [] query h = h
+pairs_fine taken ((key, value) ∷ pairs) query h =
+    next_fine (query_after taken query (text_of key) (text_of value)) _ (query_fine taken query (text_of key) (text_of value) h) (λ next k. pairs_fine taken pairs next k)
 
 -- the time to wait that a query says, or that is meant where it says none
-pub timeout_formed : (pairs : List (List ℕ × List ℕ)) → IfOk (query_of pairs) (λ query. is_timeout (wait_timeout query) ≡ true)
-timeout_formed pairs = by (query_of pairs) (pairs_fine pairs no_query refl)
+pub timeout_formed : (taken : Bool) (pairs : List (List ℕ × List ℕ)) → IfOk (query_of taken pairs) (λ query. is_timeout (wait_timeout query) ≡ true)
+timeout_formed taken pairs = by (query_of taken pairs) (pairs_fine taken pairs no_query refl)
   where
     asked : (timeout : Option ℤ) → is_fine timeout ≡ true → is_timeout (unwrap_or timeout (negsuc 0)) ≡ true
     asked None h = refl

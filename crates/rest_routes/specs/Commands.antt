@@ -16,6 +16,7 @@ use Rattle.rest_json.specs.declared.terms.Terms.{Terms}
 use Rattle.rest_routes.specs.Answers.{mapped, followed}
 use Rattle.rest_routes.specs.Paths.{path_of, query_of}
 use Rattle.rest_routes.specs.Endpoints.{empty_line_of, line_of, verb_offered, has_body}
+use Rattle.rest_routes.specs.Filters.{takes_filter}
 use Rattle.rest_routes.specs.Leniencies.{Asked, as_plain}
 use Rattle.rest_routes.specs.Queries.{project_of, query_of as query_said}
 use Rattle.rest_routes.specs.Refusals.{plain_refusal}
@@ -35,7 +36,7 @@ what_at endpoint verb path query boot body =
 -- of the ids of operations.
 unfoldable pub plain_command : Asked → ℕ → Result Command Refusal
 plain_command asked boot =
-    followed (query_said asked.pairs) (λ query.
+    followed (query_said (takes_filter asked.endpoint asked.verb) asked.pairs) (λ query.
     mapped (λ what. record { project = project_of query; what = what })
     (what_at asked.endpoint asked.verb asked.path query boot asked.body))
 

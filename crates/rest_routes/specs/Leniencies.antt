@@ -7,6 +7,7 @@ use Rattle.size_values.specs.declared.kinds.ObjectKind.TheVariants as kind
 use Rattle.rest_bodies.specs.Without.{with_own_snapshot, without_empty, without_start, without_untyped_source}
 use Rattle.rest_json.specs.declared.terms.Dialect.{Dialect}
 use Rattle.rest_json.specs.declared.terms.Dialect.TheVariants as dialect
+use Rattle.rest_routes.specs.Filters.{takes_filter}
 use Rattle.rest_routes.specs.Paths.{name_of}
 use Rattle.rest_routes.specs.Queries.{pairs_passing}
 use Rattle.rest_routes.specs.declared.endpoints.Endpoint.{Endpoint}
@@ -23,12 +24,6 @@ pub record Asked : Type 0 where
   pub pairs : List (List ℕ × List ℕ)
   pub body : Option Data
 
--- what Incus can filter: `GET /1.0/instances` and `GET /1.0/storage-pools/POOL/volumes`
-abbrev pub can_be_filtered : Endpoint → Verb → Bool
-can_be_filtered (endpoint.List kind.Instance) verb.Get = true
-can_be_filtered (endpoint.List kind.Volume) verb.Get = true
-can_be_filtered other verb = false
-
 -- the body of a request to an endpoint
 abbrev pub plain_body : Endpoint → Verb → List ℕ → Data → Data
 -- `POST /1.0/networks`: an empty `type`
@@ -43,10 +38,10 @@ plain_body (endpoint.One kind.Instance) verb.Post path body = without_empty (cod
 plain_body (endpoint.One kind.Instance) verb.Put path body = with_own_snapshot (name_of kind.Instance path) body
 plain_body other verb path body = body
 
--- the pairs of a query in a dialect: empty filters are passed over
+-- the pairs of a query in a dialect: empty filters are passed over where a filter is taken
 abbrev pub pairs_in : Dialect → Endpoint → Verb → List (List ℕ × List ℕ) → List (List ℕ × List ℕ)
 pairs_in dialect.Plain endpoint verb pairs = pairs
-pairs_in dialect.Client endpoint verb pairs = pairs_passing (can_be_filtered endpoint verb) pairs
+pairs_in dialect.Client endpoint verb pairs = pairs_passing (takes_filter endpoint verb) pairs
 
 -- the body of a request in a dialect
 abbrev pub body_in : Dialect → Endpoint → Verb → List ℕ → Data → Data

@@ -69,7 +69,7 @@ BodiesAreRead =
 abbrev empty : List ℕ × List ℕ
 empty = (codes "filter", [])
 
--- In the client's dialect a filter that is empty once it is decoded is passed over where Incus can filter, and there
+-- In the client's dialect a filter that is empty once it is decoded is passed over where a filter is taken, and there
 -- alone; any other pair stays.
 pub record QueriesAreRead : Type 0 where
   pub instances : (pair : List ℕ × List ℕ) → is_empty_filter pair ≡ true
@@ -80,5 +80,7 @@ pub record QueriesAreRead : Type 0 where
       → pairs_in dialect.Client (endpoint.List kind.Instance) verb.Get (pair ∷ []) ≡ pair ∷ []
   pub made : pairs_in dialect.Client (endpoint.List kind.Instance) verb.Post (empty ∷ []) ≡ empty ∷ []
   pub one : pairs_in dialect.Client (endpoint.One kind.Instance) verb.Get (empty ∷ []) ≡ empty ∷ []
-  pub others : pairs_in dialect.Client (endpoint.List kind.Profile) verb.Get (empty ∷ []) ≡ empty ∷ []
+  pub profiles : (pair : List ℕ × List ℕ) → is_empty_filter pair ≡ true
+      → pairs_in dialect.Client (endpoint.List kind.Profile) verb.Get (pair ∷ []) ≡ []
+  pub operations : pairs_in dialect.Client (endpoint.List kind.Operation) verb.Get (empty ∷ []) ≡ empty ∷ []
   pub plain : pairs_in dialect.Plain (endpoint.List kind.Instance) verb.Get (empty ∷ []) ≡ empty ∷ []

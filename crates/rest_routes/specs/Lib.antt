@@ -3,6 +3,7 @@ pub mod Filled
 pub mod Paths
 pub mod Endpoints
 pub mod Queries
+pub mod Filters
 pub mod Refusals
 pub mod Commands
 pub mod Known

@@ -7,6 +7,8 @@ use Rattle.std.specs.Result.{result_ok}
 use Rattle.std.specs.Str.{bytes_eq}
 use Rattle.std.specs.Str.Lossy.{utf8_lossy}
 use Rattle.form_urlencoded.specs.Form.{raw_pairs, decode}
+use Rattle.filter_texts.specs.Reading.{choice_read}
+use Rattle.filter_texts.specs.declared.choice.Step.{Step}
 use Rattle.size_values.specs.Count.{count_of}
 use Rattle.records.specs.Forms.{longest_wait}
 use Rattle.records.specs.declared.refusals.Rule.TheVariants as rule
@@ -64,7 +66,8 @@ types_of value =
 
 -- a query that says nothing
 abbrev pub no_query : Query
-no_query = record { project = None; flags = record { recursion = None; timeout = None; types = None } }
+no_query =
+    record { project = None; flags = record { recursion = None; timeout = None; types = None }; filter = None }
 
 -- The flags after one more pair, or none if the pair is bad. The first of equal keys counts, and other keys say
 -- nothing.
@@ -79,7 +82,7 @@ flags_after flags key value =
     else (if bytes_eq key (codes "type")
     && not (is_some flags.types)
     then option_map (λ (types : Types). record flags { types = Some types }) (types_of value)
-    else (if bytes_eq key (codes "all-projects") || bytes_eq key (codes "filter") then None
+    else (if bytes_eq key (codes "all-projects") then None
     else Some flags)))
 
 -- the project after one more pair: the first that is named
@@ -87,17 +90,27 @@ unfoldable pub project_after : Option (List ℕ) → List ℕ → List ℕ → O
 project_after project key value =
     if bytes_eq key (codes "project") && not (is_some project) then Some value else project
 
--- the query after one more pair; a bad pair is refused by its key
-unfoldable pub query_after : Query → List ℕ → List ℕ → Result Query Refusal
-query_after query key value =
+-- The filter after one more pair, or none if the pair is bad: a filter that is said where none is taken, or that cannot
+-- be read. The first counts, and other keys say nothing.
+unfoldable pub filter_after : Bool → Option (List Step) → List ℕ → List ℕ → Option (Option (List Step))
+filter_after taken filter key value =
+    if not (bytes_eq key (codes "filter")) then Some filter
+    else (if not taken then None
+    else (if is_some filter then Some filter
+    else option_map Some (result_ok (choice_read value))))
+
+-- The query after one more pair, where a filter is taken or not; a bad pair is refused by its key.
+unfoldable pub query_after : Bool → Query → List ℕ → List ℕ → Result Query Refusal
+query_after taken query key value =
     followed (ok_or (flags_after query.flags key value) (on_key rule.A3 key)) (λ flags.
-    Ok (record { project = project_after query.project key value; flags = flags }))
+    followed (ok_or (filter_after taken query.filter key value) (on_key rule.A3 key)) (λ filter.
+    Ok (record { project = project_after query.project key value; flags = flags; filter = filter })))
 
 -- the query with all these pairs
-abbrev pub query_in : Query → List (List ℕ × List ℕ) → Result Query Refusal
-query_in query [] = Ok query
-query_in query ((key, value) ∷ pairs) =
-    followed (query_after query (text_of key) (text_of value)) (λ next. query_in next pairs)
+abbrev pub query_in : Bool → Query → List (List ℕ × List ℕ) → Result Query Refusal
+query_in taken query [] = Ok query
+query_in taken query ((key, value) ∷ pairs) =
+    followed (query_after taken query (text_of key) (text_of value)) (λ next. query_in taken next pairs)
 
 -- `filter=`, which filters nothing
 abbrev pub is_empty_filter : List ℕ × List ℕ → Bool
@@ -107,13 +120,13 @@ is_empty_filter pair = bytes_eq (text_of pair.0) (codes "filter") && bytes_eq (t
 abbrev pub pairs_passing : Bool → List (List ℕ × List ℕ) → List (List ℕ × List ℕ)
 pairs_passing passed pairs = filter (λ pair. not (passed && is_empty_filter pair)) pairs
 
--- what pairs say, or the refusal of the first bad one
-abbrev pub query_of : List (List ℕ × List ℕ) → Result Query Refusal
-query_of pairs = query_in no_query pairs
+-- what pairs say where a filter is taken or not, or the refusal of the first bad one
+abbrev pub query_of : Bool → List (List ℕ × List ℕ) → Result Query Refusal
+query_of taken pairs = query_in taken no_query pairs
 
--- what a query says
+-- what a query says where no filter is taken
 unfoldable pub query_from_text : List ℕ → Result Query Refusal
-query_from_text text = query_of (raw_pairs text)
+query_from_text text = query_of false (raw_pairs text)
 
 -- the project that is asked in, which is `default` where the query names none
 abbrev pub project_of : Query → List ℕ
@@ -122,6 +135,10 @@ project_of query = unwrap_or query.project (codes "default")
 -- whether objects are listed, and not their URLs alone
 abbrev pub wants_objects : Query → Bool
 wants_objects query = unwrap_or query.flags.recursion false
+
+-- whether objects are asked for: where they are listed, and where a filter chooses among them
+abbrev pub asks_objects : Query → Bool
+asks_objects query = wants_objects query || is_some query.filter
 
 -- the time to wait for an operation, which has no end where the query says nothing
 abbrev pub wait_timeout : Query → ℤ

@@ -8,7 +8,7 @@ use Rattle.records.specs.declared.commands.What.TheVariants as what
 use Rattle.records.specs.declared.refusals.Rule.TheVariants as rule
 use Rattle.records.specs.declared.refusals.Refusal.{Refusal}
 use Rattle.rest_routes.specs.Answers.{mapped}
-use Rattle.rest_routes.specs.Queries.{wants_objects, wait_timeout}
+use Rattle.rest_routes.specs.Queries.{asks_objects, wait_timeout}
 use Rattle.rest_routes.specs.Refusals.{plain_refusal}
 use Rattle.rest_routes.specs.declared.endpoints.Endpoint.{Endpoint}
 use Rattle.rest_routes.specs.declared.endpoints.Endpoint.TheVariants as endpoint
@@ -38,7 +38,7 @@ abbrev pub what_without_body : Endpoint → Verb → List ℕ → Query → ℕ 
 what_without_body endpoint.Root verb path query boot = Ok what.Root
 what_without_body endpoint.Server verb path query boot = Ok what.Server
 what_without_body (endpoint.List kind) verb path query boot =
-    Ok (what.List (objects_of kind path) (wants_objects query))
+    Ok (what.List (objects_of kind path) (asks_objects query))
 what_without_body (endpoint.One kind) verb path query boot = get_or_delete_at kind verb path boot
 what_without_body endpoint.Usage verb path query boot = Ok (what.State (object_of kind.Project path))
 what_without_body endpoint.State verb path query boot = Ok (what.State (object_of kind.Instance path))

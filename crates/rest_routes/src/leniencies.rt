@@ -4,14 +4,16 @@ ghost use Rattle.form_urlencoded.specs.Form.{raw_pairs};
 ghost use Rattle.serde_json.specs.View.{view};
 ghost use Rattle.size_values.specs.declared.kinds.ObjectKind.TheVariants as kind;
 ghost use Rattle.rest_routes.specs.Answers.{Gives};
-ghost use Rattle.rest_routes.specs.Leniencies.{body_in, can_be_filtered, pairs_in, plain_body};
+ghost use Rattle.rest_routes.specs.Filters.{takes_filter};
+ghost use Rattle.rest_routes.specs.Leniencies.{body_in, pairs_in, plain_body};
 ghost use Rattle.rest_routes.specs.Queries.{query_of};
 ghost use Rattle.rest_routes.specs.declared.endpoints.Endpoint.TheVariants as endpoint;
 ghost use Rattle.rest_routes.specs.declared.endpoints.Verb.TheVariants as verb;
 
 use crate::endpoints::{Endpoint, Verb};
+use crate::filters::takes_filter;
 use crate::paths::name_of;
-use crate::query::{Query, query_from_text, query_read};
+use crate::query::{Query, query_read};
 use records::Refusal;
 use rest_bodies::{with_own_snapshot, without_empty, without_start, without_untyped_source};
 use rest_json::Dialect;
@@ -19,31 +21,8 @@ use serde_json::Value;
 use size_values::{NoMemory, ObjectKind, Or};
 use std::alloc::Global;
 
-/// Whether Incus can filter a list of objects of a kind.
-fn can_filter(kind: ObjectKind) -> bool
-    ensures { result ≡ can_be_filtered (endpoint.List kind) verb.Get }
-{
-    match kind {
-        ObjectKind::Instance | ObjectKind::Volume => true,
-        _ => false,
-    }
-}
-
-/// Whether Incus can filter what a method asks of an endpoint.
-fn can_be_filtered(endpoint: Endpoint, verb: Verb) -> bool
-    ensures { result ≡ can_be_filtered endpoint verb }
-{
-    match verb {
-        Verb::Get => match endpoint {
-            Endpoint::List(kind) => can_filter(kind),
-            _ => false,
-        },
-        _ => false,
-    }
-}
-
 /// What a query says at an endpoint, read in a dialect.
-#[tactic(auto, unfolding(crate::specs::Queries::query_from_text))]
+#[tactic(auto, using(crate::proofs::Passing::none_passed))]
 pub(crate) fn query_in(
     alloc: Global,
     dialect: Dialect,
@@ -51,11 +30,13 @@ pub(crate) fn query_in(
     verb: Verb,
     text: &str,
 ) -> Result<Query, Or<Refusal>>
-    ensures { Gives result (query_of (pairs_in dialect endpoint verb (raw_pairs text.now))) }
+    ensures { Gives result
+        (query_of (takes_filter endpoint verb) (pairs_in dialect endpoint verb (raw_pairs text.now))) }
 {
+    let taken = takes_filter(endpoint, verb);
     match dialect {
-        Dialect::Plain => query_from_text(alloc, text),
-        Dialect::Client => query_read(alloc, text, can_be_filtered(endpoint, verb)),
+        Dialect::Plain => query_read(alloc, text, taken, false),
+        Dialect::Client => query_read(alloc, text, taken, taken),
     }
 }
 

@@ -4,6 +4,7 @@
 mod absolute;
 mod commands;
 mod endpoints;
+mod filters;
 mod known;
 mod laws;
 mod leniencies;
@@ -19,8 +20,12 @@ mod with_body;
 mod without_body;
 
 pub use endpoints::{Endpoint, Line, Methods, Verb, has_body, verb_offered};
+pub use filters::list_query;
 pub use known::asks_for_server;
-pub use laws::{dialects_ask_in_plain, leniencies_by_example, what_is_routed_is_formed};
+pub use laws::{
+    dialects_ask_in_plain, leniencies_by_example, lists_are_asked_by_their_query,
+    what_is_routed_is_formed,
+};
 pub use path_laws::{
     events_stand_at_one_path, names_fill_the_braces, paths_do_not_conflict,
     the_server_stands_at_its_path,

@@ -1,15 +1,20 @@
-ghost use Rattle.std.specs.Prelude.{◌≡◌, ◌≤◌, ◌&&◌, [], IfOk, IfSome, codes};
+ghost use Rattle.std.specs.Prelude.{◌≡◌, ◌≤◌, ◌&&◌, [], Some, IfOk, IfSome, codes, ok_or, option_map};
+ghost use Rattle.std.specs.Result.{result_ok};
 ghost use Rattle.std.specs.Str.{bytes_eq};
 ghost use Rattle.form_urlencoded.specs.Form.{raw_pairs};
+ghost use Rattle.filter_texts.specs.Reading.{choice_read};
 ghost use Rattle.records.specs.Forms.{longest_wait};
+ghost use Rattle.records.specs.declared.refusals.Rule.TheVariants as rule;
 ghost use Rattle.rest_routes.specs.Answers.{Gives};
+ghost use Rattle.rest_routes.specs.Refusals.{on_key};
 ghost use Rattle.rest_routes.specs.Queries.{recursion_of, has_leading_zero, timeout_seconds, timeout_of, is_type};
 ghost use Rattle.rest_routes.specs.Queries.{are_types, lists_word, types_of};
-ghost use Rattle.rest_routes.specs.Queries.{no_query, flags_after, project_after, query_after, pairs_passing};
-ghost use Rattle.rest_routes.specs.Queries.{query_of, query_from_text};
-ghost use Rattle.rest_routes.specs.Queries.{project_of, wants_objects, wait_timeout, wanted_types};
+ghost use Rattle.rest_routes.specs.Queries.{no_query, flags_after, filter_after, project_after, query_after};
+ghost use Rattle.rest_routes.specs.Queries.{pairs_passing, query_of, query_from_text};
+ghost use Rattle.rest_routes.specs.Queries.{project_of, wants_objects, asks_objects, wait_timeout, wanted_types};
 
 use crate::refusals::refusal_on_key;
+use filter_texts::{Choice, read_choice};
 use form_urlencoded::parse;
 use records::{Refusal, Rule};
 use size_values::{NoMemory, Or, Text, read_count};
@@ -36,6 +41,8 @@ pub struct Flags {
 pub struct Query {
     pub project: Option<Text>,
     pub flags: Flags,
+    /// The filter that chooses among the objects of a list.
+    pub filter: Option<Choice>,
 }
 
 /// Whether objects are listed: `0`, `1`, or `2`, which is the same as `1`.
@@ -143,7 +150,7 @@ fn flags_after(mut flags: Flags, key: &str, value: &str) -> Option<Flags>
         flags.timeout = Some(timeout_of(value)?);
     } else if key == "type" && flags.types.is_none() {
         flags.types = Some(types_of(value.as_bytes())?);
-    } else if key == "all-projects" || key == "filter" {
+    } else if key == "all-projects" {
         return None;
     }
     Some(flags)
@@ -165,17 +172,66 @@ fn project_after(
     Ok(project)
 }
 
-/// The query after one more pair, or the refusal of a bad pair by its key.
-#[tactic(auto, unfolding(crate::specs::Queries::query_after))]
-fn query_after(alloc: Global, query: Query, key: &str, value: &str) -> Result<Query, Or<Refusal>>
-    ensures { Gives result (query_after query key.now value.now) }
+/// The filter that a value says, or the refusal of its key where it says none.
+fn filter_said(alloc: Global, key: &str, value: &str) -> Result<Option<Choice>, Or<Refusal>>
+    ensures { Gives result (ok_or (option_map Some (result_ok (choice_read value.now))) (on_key rule.A3 key.now)) }
 {
-    let Query { project, flags } = query;
+    match read_choice(alloc, value) {
+        Ok(choice) => Ok(Some(choice)),
+        Err(Or::Why(_)) => Err(refusal_on_key(alloc, Rule::A3, key)),
+        Err(Or::NoMemory) => Err(Or::NoMemory),
+    }
+}
+
+/// The filter after one more pair, where one is taken or not: the first that is said.
+#[tactic(auto, unfolding(crate::specs::Queries::filter_after))]
+fn filter_after(
+    alloc: Global,
+    taken: bool,
+    filter: Option<Choice>,
+    key: &str,
+    value: &str,
+) -> Result<Option<Choice>, Or<Refusal>>
+    ensures { Gives result (ok_or (filter_after taken filter key.now value.now) (on_key rule.A3 key.now)) }
+{
+    if key != "filter" {
+        return Ok(filter);
+    }
+    if !taken {
+        return Err(refusal_on_key(alloc, Rule::A3, key));
+    }
+    if filter.is_some() {
+        return Ok(filter);
+    }
+    filter_said(alloc, key, value)
+}
+
+/// The query after one more pair, where a filter is taken or not, or the refusal of a bad pair by its key.
+#[tactic(auto, unfolding(crate::specs::Queries::query_after))]
+fn query_after(
+    alloc: Global,
+    taken: bool,
+    query: Query,
+    key: &str,
+    value: &str,
+) -> Result<Query, Or<Refusal>>
+    ensures { Gives result (query_after taken query key.now value.now) }
+{
+    let Query {
+        project,
+        flags,
+        filter,
+    } = query;
     let Some(flags) = flags_after(flags, key, value) else {
         return Err(refusal_on_key(alloc, Rule::A3, key));
     };
+    let filter = filter_after(alloc, taken, filter, key, value)?;
     let project = project_after(alloc, project, key, value)?;
-    Ok(Query { project, flags })
+    Ok(Query {
+        project,
+        flags,
+        filter,
+    })
 }
 
 /// Whether a pair of a query is a filter that filters nothing.
@@ -186,13 +242,14 @@ fn is_empty_filter(key: &str, value: &str) -> bool
 }
 
 /// What a query says, or the refusal of its first bad pair. Keys and values are those of a form (URL Standard,
-/// section 5), and bytes that are no UTF-8 are replaced. Empty filters may be passed over.
+/// section 5), and bytes that are no UTF-8 are replaced. A filter is taken or not, and empty filters may be passed over.
 pub(crate) fn query_read(
     alloc: Global,
     text: &str,
+    taken: bool,
     passes_empty_filters: bool,
 ) -> Result<Query, Or<Refusal>>
-    ensures { Gives result (query_of (pairs_passing passes_empty_filters (raw_pairs text.now))) }
+    ensures { Gives result (query_of taken (pairs_passing passes_empty_filters (raw_pairs text.now))) }
 {
     let mut query = Query {
         project: None,
@@ -201,29 +258,36 @@ pub(crate) fn query_read(
             timeout: None,
             types: None,
         },
+        filter: None,
     };
     for pair in parse(alloc, text.as_bytes()) {
         let (key, value) = pair?;
         if !(passes_empty_filters && is_empty_filter(&key, &value)) {
-            query = query_after(alloc, query, &key, &value)?;
+            query = query_after(alloc, taken, query, &key, &value)?;
         }
     }
     Ok(query)
 }
 
-/// What a query says, or the refusal of its first bad pair.
+/// What a query says where no filter is taken, or the refusal of its first bad pair.
 #[tactic(auto, unfolding(crate::specs::Queries::query_from_text), using(crate::proofs::Passing::none_passed))]
 pub fn query_from_text(alloc: Global, text: &str) -> Result<Query, Or<Refusal>>
     ensures { Gives result (query_from_text text.now) }
 {
-    query_read(alloc, text, false)
+    query_read(alloc, text, false, false)
 }
 
 /// The project that is asked in.
 pub fn project_of(alloc: Global, query: Query) -> Result<Text, NoMemory>
     ensures { IfOk result (λ t. t ≡ project_of query) }
 {
-    match query.project {
+    let Query {
+        project,
+        flags: _,
+        filter,
+    } = query;
+    drop(filter);
+    match project {
         Some(project) => Ok(project),
         None => Text::from_text(alloc, "default"),
     }
@@ -237,6 +301,13 @@ pub fn wants_objects(query: &Query) -> bool
         Some(objects) => objects,
         None => false,
     }
+}
+
+/// Whether objects are asked for: where they are listed, and where a filter chooses among them.
+pub(crate) fn asks_objects(query: &Query) -> bool
+    ensures { result ≡ asks_objects query.now }
+{
+    wants_objects(query) || query.filter.is_some()
 }
 
 /// How many seconds to wait for an operation, or -1 for no end, which is also where nothing is said.

@@ -4,7 +4,7 @@ ghost use Rattle.rest_routes.specs.Answers.{Gives};
 ghost use Rattle.rest_routes.specs.WithoutBody.{get_or_delete, get_or_cancel, get_or_delete_at, what_without_body};
 
 use crate::endpoints::{Endpoint, Verb};
-use crate::query::{Query, wait_timeout, wants_objects};
+use crate::query::{Query, asks_objects, wait_timeout};
 use crate::refusals::plain_refusal;
 use crate::targets::{object_of, objects_of, operation_at};
 use records::{Refusal, Rule, Target, What};
@@ -61,7 +61,7 @@ pub(crate) fn what_without_body(
         Endpoint::Server => Ok(What::Server),
         Endpoint::List(kind) => Ok(What::List {
             of: objects_of(alloc, kind, path)?,
-            recursion: wants_objects(query),
+            recursion: asks_objects(query),
         }),
         Endpoint::One(kind) => get_or_delete_at(alloc, kind, verb, path, boot),
         Endpoint::Usage => Ok(What::State {

@@ -8,7 +8,7 @@ use Rattle.sha1.specs.Sha1.{first_words, schedule, rounds, compress, hash_after,
 use Rattle.form_urlencoded.specs.Form.{split, raw_pairs}
 use Rattle.percent_encoding.specs.Percent.{percent_decode}
 use Rattle.rest_routes.specs.Paths.{path_of, query_of, absolute_path, before_colon, is_http}
-use Rattle.rest_routes.specs.Queries.{is_type, are_types, lists_word, types_of, flags_after, project_after, query_after, query_from_text}
+use Rattle.rest_routes.specs.Queries.{is_type, are_types, lists_word, types_of, flags_after, filter_after, project_after, query_after, query_from_text}
 use Rattle.serve_loop.specs.Accepting.{accept_text}
 use Rattle.serve_loop.specs.SubscriptionExamples.{AreExamples}
 use Rattle.serve_loop.specs.Filters.{filter_of}
@@ -18,7 +18,7 @@ unfolding accept_text encode_symbols first_words schedule rounds compress hash_a
 accept_example = refl
 
 pub examples : (key : List ℕ) → AreExamples key
-unfolding filter_of path_of query_of absolute_path before_colon is_http split raw_pairs is_type are_types lists_word types_of flags_after project_after query_after query_from_text utf8_lossy utf8_valid_len is_utf8 chars encode percent_decode
+unfolding filter_of path_of query_of absolute_path before_colon is_http split raw_pairs is_type are_types lists_word types_of flags_after filter_after project_after query_after query_from_text utf8_lossy utf8_valid_len is_utf8 chars encode percent_decode
 examples key = record {
   all = refl;
   operations = refl;

@@ -15,6 +15,7 @@ returns-clause-queries c = record {
   filtered = λ pair is. rw is refl;
   made = refl;
   one = refl;
-  others = refl;
+  profiles = λ pair is. rw is refl;
+  operations = refl;
   plain = refl;
 }

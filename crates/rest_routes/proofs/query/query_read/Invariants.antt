@@ -8,5 +8,5 @@ abbrev pub invariant-loop-pair : goal.invariant-loop-pair
 invariant-loop-pair l =
     goal.iterator-loop-pair.can_next l.pair-iterator
     × goal.iterator-loop-pair.is_finite l.pair-iterator
-    × (query_in l.query (pairs_passing l.passes_empty_filters (pairs_left l.pair-iterator))
-    ≡ query_of (pairs_passing l.passes_empty_filters (raw_pairs l.text)))
+    × (query_in l.taken l.query (pairs_passing l.passes_empty_filters (pairs_left l.pair-iterator))
+    ≡ query_of l.taken (pairs_passing l.passes_empty_filters (raw_pairs l.text)))
