@@ -1,0 +1,4 @@
+mod Members
+mod HeadLemmas
+pub mod ReplyLemmas
+pub mod ListLemmas

@@ -1,0 +1,6 @@
+mod ReceiveLemmas
+mod TalkLemmas
+mod SessionLemmas
+mod RunLaws
+mod StatusLaws
+mod PrintLaws

@@ -1,0 +1,4 @@
+pub mod Values
+pub mod Program
+pub mod Words
+pub mod Examples
