@@ -271,7 +271,7 @@ def check_failed(clients, _):
     for command, replies, _, _ in GOOD:
         for number in range(len(replies)):
             peer, ran = clients.over([*replies[:number], refused()], *command)
-            need(ran[:2] == (1, "error: limit is exceeded\n") and len(peer.requests) == number + 1, f"{command}: {ran}")
+            need(ran[:2] == (1, "error: limit is exceeded: rule L1\n") and len(peer.requests) == number + 1, f"{command}: {ran}")
     for command, replies, _, _ in GOOD[3:7]:
         for number in range(1, len(replies), 2):
             peer, ran = clients.over([*replies[:number], ended("Failure", "the host said no")], *command)

@@ -39,7 +39,7 @@ onward_ends words [] operation body = rows_end words body (rows_of words.asks bo
 after_end_ends : (words : ClientWords) (legs : List Leg) (status error : Option (List ℕ)) (body : Data) → EndsHere (after_end words legs status error body)
 after_end_ends words legs (Some status) (Some error) body = at (bytes_eq status (codes "Success"))
   where
-    at : (b : Bool) → EndsHere (cond b (onward words legs [] body) (failed error))
+    at : (b : Bool) → EndsHere (cond b (onward words legs [] body) (failed error None))
     at true = onward_ends words legs [] body
     at false = inr (inl refl)
 after_end_ends words legs (Some status) None body = inr (inr refl)

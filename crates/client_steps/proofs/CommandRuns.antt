@@ -1,11 +1,21 @@
 -- Each command with its replies.
-use Rattle.std.proofs.Common.{◌≡◌, ◌++◌, ◌-◌, ◌∙◌, ℕ, ap, append-nil, append_assoc, arith, refl, length, List, [], ◌∷◌, Some, codes}
+use Rattle.std.proofs.Common.{◌≡◌, ◌++◌, ◌-◌, ◌∙◌, ℕ, ap, append-nil, append_assoc, arith, refl, length, Bool, true, false, List, [], ◌∷◌, None, Some, codes}
 use Rattle.std.specs.Prelude.{decimal, replicate}
 use Rattle.std.specs.Str.{byte}
 use Rattle.workload.specs.Stream.{request}
 use Rattle.client_steps.specs.Laws.{Runs}
-use Rattle.client_steps.specs.Lines.{lines, no_widths, padded}
+use Rattle.client_steps.specs.Lines.{error_line, lines, no_widths, padded, says_parts, unsaid_parts}
 use Rattle.client_steps.specs.Rows.{two}
+
+-- an error that keeps no part leaves none unsaid
+none_unsaid : (said : Bool) → unsaid_parts said None ≡ []
+none_unsaid true = refl
+none_unsaid false = refl
+
+told_alone : (text : List ℕ) → error_line text None ≡ codes "error: " ++ text ++ codes "\n"
+told_alone text =
+    ap (λ parts. codes "error: " ++ text ++ parts ++ codes "\n") (none_unsaid (says_parts text))
+    ∙ ap (λ said. codes "error: " ++ said ++ codes "\n") (append-nil text)
 
 -- ---- lines without widths
 
@@ -79,7 +89,7 @@ runs = record {
   making = λ project name path body. record { sent = refl; lines = refl; ends = refl };
   not_made = λ project name path error body end ended. record {
     sent = rw (ended.status_is, ended.error_is) refl;
-    lines = rw (ended.status_is, ended.error_is) refl;
+    lines = rw (ended.status_is, ended.error_is) (told_alone error);
     ends = rw (ended.status_is, ended.error_is) refl;
   };
 }

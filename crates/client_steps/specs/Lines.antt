@@ -1,8 +1,11 @@
 -- What is printed.
-use Rattle.std.specs.Prelude.{ℕ, ◌-◌, max, List, [], ◌∷◌, ◌++◌, length, Option, Some, None, codes, replicate}
+use Rattle.std.specs.Prelude.{ℕ, ◌-◌, ◌==◌, max, Bool, true, false, List, [], ◌∷◌, ◌++◌, length, Option, Some, None, codes, decimal, replicate}
 use Rattle.std.specs.List.{flat_map}
 use Rattle.std.specs.Str.{byte}
-use Rattle.serde_json.specs.Data.{Data}
+use Rattle.std.specs.List.{list_any}
+use Rattle.std.specs.Option.{option_and_then}
+use Rattle.serde_json.specs.Data.{Data, Members, member, no_members}
+use Rattle.serde_json.specs.Find.{as_number, as_object, as_str, as_u64}
 use Rattle.serde_json.specs.Written.{compact_text}
 use Rattle.client_words.specs.declared.words.Format.{Format}
 use Rattle.client_words.specs.declared.words.Format.TheVariants.{Json, Plain, Table}
@@ -44,6 +47,37 @@ text_of Plain heading rows body = lines no_widths rows
 text_of Table heading rows body = lines (widths_of (heading ∷ rows)) (heading ∷ rows)
 text_of Json heading rows body = compact_text body ++ codes "\n"
 
--- what is printed where something went wrong
-abbrev pub error_line : List ℕ → List ℕ
-error_line text = codes "error: " ++ text ++ codes "\n"
+-- ---- what is printed where something went wrong
+
+-- a value in words: a text as it is, a number that is not negative in decimal, and a dash for anything else
+abbrev pub worded_as : Option (List ℕ) → Option ℕ → List ℕ
+worded_as (Some text) number = text
+worded_as None (Some number) = decimal number
+worded_as None None = codes "-"
+
+abbrev pub worded : Data → List ℕ
+worded value = worded_as (as_str value) (option_and_then as_u64 (as_number value))
+
+-- keys with their values in words, each behind a mark: this one at the first, and a comma at the others
+abbrev pub parts_behind : List ℕ → Members → List ℕ
+parts_behind mark no_members = []
+parts_behind mark (member key value more) =
+    mark ++ key ++ codes " " ++ worded value ++ parts_behind (codes ", ") more
+
+-- the parts that an error keeps, in the order of the members; nothing where it keeps no object
+abbrev pub kept_parts : Option Members → List ℕ
+kept_parts (Some members) = parts_behind (codes ": ") members
+kept_parts None = []
+
+-- a text that goes on behind a colon says the parts itself, as the server's texts for the stock client do
+abbrev pub says_parts : List ℕ → Bool
+says_parts text = list_any (λ byte. byte == 58) text
+
+-- the parts that are kept, where the text does not say them
+abbrev pub unsaid_parts : Bool → Option Data → List ℕ
+unsaid_parts true kept = []
+unsaid_parts false kept = kept_parts (option_and_then as_object kept)
+
+-- what is said of it, and the parts that are kept
+abbrev pub error_line : List ℕ → Option Data → List ℕ
+error_line text kept = codes "error: " ++ text ++ unsaid_parts (says_parts text) kept ++ codes "\n"

@@ -17,9 +17,9 @@ use Rattle.client_steps.specs.declared.steps.Next.TheVariants.{End, Send}
 abbrev pub malformed : Next
 malformed = End [] 3
 
--- something went wrong, and this is said of it
-abbrev pub failed : List ℕ → Next
-failed text = End (error_line text) 1
+-- something went wrong: this is said of it, and these parts are kept
+abbrev pub failed : List ℕ → Option Data → Next
+failed text kept = End (error_line text kept) 1
 
 -- all requests were answered well: the rows are printed
 abbrev pub told_rows : ClientWords → Data → Option (List Cells) → Next
@@ -34,7 +34,7 @@ onward words [] operation body = told_rows words body (rows_of words.asks body)
 -- an operation has ended so: the first text is its status, and the second says what went wrong
 abbrev pub after_end : ClientWords → List Leg → Option (List ℕ) → Option (List ℕ) → Data → Next
 after_end words more (Some status) (Some error) body =
-    if bytes_eq status (codes "Success") then onward words more [] body else failed error
+    if bytes_eq status (codes "Success") then onward words more [] body else failed error None
 after_end words more (Some status) None body = malformed
 after_end words more None error body = malformed
 
@@ -67,7 +67,7 @@ after_begun words leg.Limits more operation body = malformed
 abbrev pub after_reply : ClientWords → Leg → List Leg → Told → Next
 after_reply words leg more (done body) = after_done words leg more body
 after_reply words leg more (begun operation body) = after_begun words leg more operation body
-after_reply words leg more (refused text code body) = failed text
+after_reply words leg more (refused text code body) = failed text body
 
 -- the same, of the legs that are left
 abbrev pub next_of : ClientWords → List Leg → Told → Next

@@ -26,7 +26,8 @@ pub(crate) fn two(alloc: Global, first: &str, second: &str) -> Result<Cells, NoM
     })
 }
 
-fn decimal(alloc: Global, number: u64) -> Result<Text, NoMemory>
+/// A number in decimal.
+pub(crate) fn decimal(alloc: Global, number: u64) -> Result<Text, NoMemory>
     ensures { IfOk result (λ text. text ≡ decimal number) }
 {
     Ok(Text::from_string(format!(in alloc; "{number}")?))

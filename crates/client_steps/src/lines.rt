@@ -1,15 +1,19 @@
 //! What is printed.
-ghost use Rattle.std.specs.Prelude.{◌≡◌, ◌++◌, ◌∷◌, IfOk, codes, replicate, string_bytes};
+ghost use Rattle.std.specs.Prelude.{◌≡◌, ◌++◌, ◌∷◌, IfOk, None, false, codes, option_map, replicate, string_bytes};
 ghost use Rattle.std.specs.Str.{byte};
-ghost use Rattle.serde_json.specs.View.{view};
+ghost use Rattle.serde_json.specs.Find.{as_object};
+ghost use Rattle.serde_json.specs.View.{members_view, view};
 ghost use Rattle.serde_json.specs.Written.{compact_text};
 ghost use Rattle.client_steps.specs.Rows.{heading_of};
-ghost use Rattle.client_steps.specs.Lines.{error_line, line, lines, no_widths, padded, rest_of_line, text_of, widest, widths_of};
+ghost use Rattle.client_steps.specs.Lines.{error_line, kept_parts, line, lines, no_widths, padded, parts_behind};
+ghost use Rattle.client_steps.specs.Lines.{rest_of_line, says_parts, text_of, unsaid_parts, widest, widths_of, worded};
+ghost use Rattle.client_steps.specs.Lines.{worded_as};
 
-use crate::cells::Cells;
+use crate::cells::{Cells, decimal};
 use crate::rows::heading_of;
 use client_replies::Metadata;
 use client_words::{Asks, Format};
+use serde_json::{Map, Value};
 use size_values::{NoMemory, Text};
 use std::alloc::Global;
 
@@ -151,9 +155,106 @@ pub(crate) fn text_of(
     }
 }
 
-/// What is printed where something went wrong.
-pub(crate) fn error_line(alloc: Global, text: &str) -> Result<Text, NoMemory>
-    ensures { IfOk result (λ line. line ≡ error_line text.now) }
+/// A number in decimal, or a dash where there is none.
+fn number_text(alloc: Global, number: Option<u64>) -> Result<Text, NoMemory>
+    ensures { IfOk result (λ text. text ≡ worded_as None number) }
 {
-    Ok(Text::from_string(format!(in alloc; "error: {text}\n")?))
+    match number {
+        Some(number) => decimal(alloc, number),
+        None => Text::from_text(alloc, "-"),
+    }
+}
+
+/// Adds a value in words: a text as it is, a number that is not negative in decimal, and a dash for anything else.
+fn push_worded(alloc: Global, text: &mut String, value: &Value) -> Result<(), NoMemory>
+    ensures { IfOk result (λ _. string_bytes text.new ≡ string_bytes text.old ++ worded (view value.now)) }
+{
+    match value.as_str() {
+        Some(said) => text.push_str(said)?,
+        None => {
+            let said = number_text(alloc, value.as_u64())?;
+            text.push_str(said.view())?;
+        }
+    }
+    Ok(())
+}
+
+/// Adds a key with its value in words, behind a mark.
+fn push_part(
+    alloc: Global,
+    text: &mut String,
+    mark: &str,
+    key: &str,
+    value: &Value,
+) -> Result<(), NoMemory>
+    ensures { IfOk result (λ _. string_bytes text.new
+        ≡ string_bytes text.old ++ mark.now ++ key.now ++ codes " " ++ worded (view value.now)) }
+{
+    text.push_str(mark)?;
+    text.push_str(key)?;
+    text.push_str(" ")?;
+    push_worded(alloc, text, value)
+}
+
+/// Adds the members of an object in words.
+fn push_parts(
+    alloc: Global,
+    text: &mut String,
+    members: &Map<String, Value>,
+) -> Result<(), NoMemory>
+    ensures { IfOk result (λ _. string_bytes text.new
+        ≡ string_bytes text.old ++ parts_behind (codes ": ") (members_view members.now.entries)) }
+{
+    let mut mark = ": ";
+    for (key, value) in members.iter() {
+        push_part(alloc, text, mark, key, value)?;
+        mark = ", ";
+    }
+    Ok(())
+}
+
+/// Adds the parts that an error keeps.
+fn push_kept(alloc: Global, text: &mut String, kept: &Value) -> Result<(), NoMemory>
+    ensures { IfOk result (λ _. string_bytes text.new
+        ≡ string_bytes text.old ++ kept_parts (as_object (view kept.now))) }
+{
+    match kept.as_object() {
+        Some(members) => push_parts(alloc, text, members),
+        None => Ok(()),
+    }
+}
+
+/// Whether a text says the parts that are kept: it goes on behind a colon.
+fn says_parts(text: &str) -> bool
+    ensures { result ≡ says_parts text.now }
+{
+    text.as_bytes().iter().any(|byte| *byte == b':')
+}
+
+/// Adds the parts that an error keeps, if there are some.
+fn push_unsaid(alloc: Global, text: &mut String, kept: Option<&Metadata>) -> Result<(), NoMemory>
+    ensures { IfOk result (λ _. string_bytes text.new
+        ≡ string_bytes text.old ++ unsaid_parts false (option_map (λ m. view m.now) kept.entry)) }
+{
+    match kept {
+        Some(kept) => push_kept(alloc, text, kept.value()),
+        None => Ok(()),
+    }
+}
+
+/// What is printed where something went wrong, with the parts that are kept, unless the text says them.
+pub(crate) fn error_line(
+    alloc: Global,
+    text: &str,
+    kept: Option<&Metadata>,
+) -> Result<Text, NoMemory>
+    ensures { IfOk result (λ line. line ≡ error_line text.now (option_map (λ m. view m.now) kept.entry)) }
+{
+    let mut line = String::from_str(alloc, "error: ")?;
+    line.push_str(text)?;
+    if !says_parts(text) {
+        push_unsaid(alloc, &mut line, kept)?;
+    }
+    line.push_str("\n")?;
+    Ok(Text::from_string(line))
 }

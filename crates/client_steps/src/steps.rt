@@ -1,5 +1,5 @@
 //! What follows on a reply.
-ghost use Rattle.std.specs.Prelude.{◌≡◌, drop, IfOk, length};
+ghost use Rattle.std.specs.Prelude.{◌≡◌, drop, IfOk, length, option_map};
 ghost use Rattle.serde_json.specs.View.{view};
 ghost use Rattle.client_replies.specs.Forms.{told};
 ghost use Rattle.client_steps.specs.Legs.{first_request, legs_of};
@@ -46,11 +46,11 @@ fn malformed(alloc: Global) -> Next
     }
 }
 
-/// Something went wrong, and this is said of it.
-fn failed(alloc: Global, text: &str) -> Result<Next, NoMemory>
-    ensures { IfOk result (λ next. next ≡ failed text.now) }
+/// Something went wrong: this is said of it, and these parts are kept.
+fn failed(alloc: Global, text: &str, kept: Option<&Metadata>) -> Result<Next, NoMemory>
+    ensures { IfOk result (λ next. next ≡ failed text.now (option_map (λ m. view m.now) kept.entry)) }
 {
-    let text = error_line(alloc, text)?;
+    let text = error_line(alloc, text, kept)?;
     Ok(Next::End { text, status: 1 })
 }
 
@@ -104,7 +104,7 @@ fn after_end(
             if status == "Success" {
                 onward(alloc, words, legs, "", body)
             } else {
-                failed(alloc, error)
+                failed(alloc, error, None)
             }
         }
         _ => Ok(malformed(alloc)),
@@ -163,7 +163,7 @@ fn after_reply(
             operation,
             metadata,
         } => after_begun(alloc, words, leg, legs, operation.view(), metadata),
-        Answer::Error { text, .. } => failed(alloc, text.view()),
+        Answer::Error { text, metadata, .. } => failed(alloc, text.view(), metadata.as_ref()),
     }
 }
 

@@ -83,7 +83,7 @@ const ROWS: &[Row] = &[
         behind: "",
         faults: NO_FAULT,
         sent: &[START],
-        printed: "error: object is missing\n",
+        printed: "error: object is missing: rule N2\n",
         status: 1,
     },
     Row {

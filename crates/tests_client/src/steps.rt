@@ -111,7 +111,7 @@ const RUNS: &[Run] = &[
         "|start|a|--port=1|--project=lab",
         &[REFUSED],
         &["PUT /1.0/instances/a/state?project=lab|{\"action\":\"start\"}"],
-        "error: object is missing\n",
+        "error: object is missing: rule N2\n",
         1,
     ),
     (
