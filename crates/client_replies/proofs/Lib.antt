@@ -1,4 +1,4 @@
 mod Members
-mod HeadLemmas
+pub mod HeadLemmas
 pub mod ReplyLemmas
 pub mod ListLemmas

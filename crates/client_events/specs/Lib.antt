@@ -1,0 +1,4 @@
+pub mod Opening
+pub mod Greetings
+pub mod Columns
+pub mod Frames
