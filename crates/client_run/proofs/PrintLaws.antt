@@ -16,7 +16,7 @@ use Rattle.std.proofs.lemmas.List.Sums.{AllPass-from_list_all}
 use Rattle.httparse.specs.Grammar.{crlf, print_end, is_token_byte, is_value_byte, is_ows, skip_ows, trim_ows, Field, IsField, print_field, ResponseHead, IsResponseHead, print_response, AllPass}
 use Rattle.httparse.specs.Spans.{name_and_value}
 use Rattle.http_front.specs.declared.reply.Printed.{Printed}
-use Rattle.http_front.specs.Replies.{line, is_reply_code, phrase_of, status_line, length_line, location_line, last_line, head_text, reply_text}
+use Rattle.http_front.specs.Replies.{line, is_reply_code, phrase_of, status_line, length_line, location_line, tag_line, last_line, head_text, reply_text}
 use Rattle.client_replies.specs.Limits.{max_head, max_body}
 use Rattle.client_replies.specs.Fields.{framed, body_length, length_in}
 use Rattle.client_replies.specs.Forms.{answer_in}
@@ -147,11 +147,14 @@ abbrev placed : List ℕ → List Field
 placed location =
     cond (length location == 0) [] (record { name = codes "Location"; raw = 32 ∷ location; end = crlf } ∷ [])
 
+abbrev tagged : List ℕ → List Field
+tagged tag = cond (length tag == 0) [] (record { name = codes "ETag"; raw = 32 ∷ tag; end = crlf } ∷ [])
+
 abbrev closed : Bool → List Field
 closed last = cond last (record { name = codes "Connection"; raw = codes " close"; end = crlf } ∷ []) []
 
 abbrev fields_in : Printed → List Field
-fields_in printed = typed ∷ measured (length printed.body) ∷ (placed printed.location ++ closed printed.last)
+fields_in printed = typed ∷ measured (length printed.body) ∷ (placed printed.location ++ (tagged printed.tag ++ closed printed.last))
 
 abbrev head_in : Printed → ResponseHead
 head_in printed = record {
@@ -174,6 +177,14 @@ placed_bytes location = at (length location == 0)
     at true = refl
     at false = append-nil (line (codes "Location: " ++ location))
 
+tagged_bytes : (tag : List ℕ) → flat_map print_field (tagged tag) ≡ tag_line tag
+tagged_bytes tag = at (length tag == 0)
+  where
+    at : (b : Bool) → flat_map print_field (cond b [] (record { name = codes "ETag"; raw = 32 ∷ tag; end = crlf } ∷ []))
+        ≡ cond b [] (line (codes "ETag: " ++ tag))
+    at true = refl
+    at false = append-nil (line (codes "ETag: " ++ tag))
+
 closed_bytes : (last : Bool) → flat_map print_field (closed last) ≡ last_line last
 closed_bytes true = refl
 closed_bytes false = refl
@@ -182,19 +193,21 @@ first_line : (code : ℕ) → status_line code
     ≡ codes "HTTP/1.1" ++ 32 ∷ decimal code ++ 32 ∷ phrase_of code ++ print_end crlf
 first_line code = ap (λ l. l ++ codes "\r\n") (append_assoc (codes "HTTP/1.1 " ++ decimal code) (32 ∷ []) (phrase_of code))
 
-regroup : (s a b c d e : List ℕ) → s ++ a ++ b ++ c ++ d ++ e ≡ s ++ (a ++ (b ++ (c ++ d)) ++ e)
-regroup s a b c d e = grind (arith, common_steps)
+regroup : (s a b c t d e : List ℕ) → s ++ a ++ b ++ c ++ t ++ d ++ e ≡ s ++ (a ++ (b ++ (c ++ (t ++ d))) ++ e)
+regroup s a b c t d e = grind (arith, common_steps)
 
 print_is : (printed : Printed) → reply_text printed ≡ print_response (head_in printed) ++ printed.body
 unfolding reply_text print_response
 print_is printed =
     ap (λ l. l ++ printed.body)
     (regroup (status_line printed.code) (line (codes "Content-Type: application/json")) (length_line (length printed.body))
-    (location_line printed.location) (last_line printed.last) (line [])
+    (location_line printed.location) (tag_line printed.tag) (last_line printed.last) (line [])
     ∙ ap₂ (λ s l. s ++ (line (codes "Content-Type: application/json") ++ (length_line (length printed.body) ++ l) ++ line []))
     (first_line printed.code)
-    (ap₂ (λ x y. x ++ y) (sym (placed_bytes printed.location)) (sym (closed_bytes printed.last))
-    ∙ sym (flat_map-append print_field (placed printed.location) (closed printed.last))))
+    (ap₂ (λ x y. x ++ y) (sym (placed_bytes printed.location))
+    (ap₂ (λ x y. x ++ y) (sym (tagged_bytes printed.tag)) (sym (closed_bytes printed.last))
+    ∙ sym (flat_map-append print_field (tagged printed.tag) (closed printed.last)))
+    ∙ sym (flat_map-append print_field (placed printed.location) (tagged printed.tag ++ closed printed.last))))
 
 -- ---- each part is what it may be
 
@@ -221,6 +234,18 @@ placed_are location all = at (length location == 0)
           raw = AllPass-from_list_all is_value_byte (32 ∷ location) all;
         }) (All-nil IsField)
 
+tagged_are : (tag : List ℕ) → list_all is_value_byte tag ≡ true → All IsField (tagged tag)
+unfolding is_token_byte
+tagged_are tag all = at (length tag == 0)
+  where
+    at : (b : Bool) → All IsField (cond b [] (record { name = codes "ETag"; raw = 32 ∷ tag; end = crlf } ∷ []))
+    at true = All-nil IsField
+    at false =
+        All-cons IsField _ [] (record {
+          name = is_token (codes "ETag") (omega arith) refl;
+          raw = AllPass-from_list_all is_value_byte (32 ∷ tag) all;
+        }) (All-nil IsField)
+
 closed_are : (last : Bool) → All IsField (closed last)
 unfolding is_token_byte
 closed_are true =
@@ -237,13 +262,15 @@ head_is : (printed : Printed) → IsPrinted printed → IsResponseHead (head_in 
 head_is printed h =
     let code = is_good_code printed.code h.code in
     let number = values_of_digits (decimal (length printed.body)) (number_is (length printed.body) h.body) in
+    let behind = placed printed.location ++ (tagged printed.tag ++ closed printed.last) in
     record {
       minor = omega arith;
       digits = (code.three, AllPass-from_list_all is_ascii_digit (decimal printed.code) code.digits);
       reason = AllPass-from_list_all is_value_byte (phrase_of printed.code) code.phrase;
-      fields = All-cons IsField typed (measured (length printed.body) ∷ (placed printed.location ++ closed printed.last)) typed_is
-          (All-cons IsField (measured (length printed.body)) (placed printed.location ++ closed printed.last) (measured_is (length printed.body) number)
-          (All-append IsField (placed printed.location) (closed printed.last) (placed_are printed.location h.visible) (closed_are printed.last)));
+      fields = All-cons IsField typed (measured (length printed.body) ∷ behind) typed_is
+          (All-cons IsField (measured (length printed.body)) behind (measured_is (length printed.body) number)
+          (All-append IsField (placed printed.location) (tagged printed.tag ++ closed printed.last) (placed_are printed.location h.visible)
+          (All-append IsField (tagged printed.tag) (closed printed.last) (tagged_are printed.tag h.visible_tag) (closed_are printed.last))));
     }
 
 -- ---- the length of the body
@@ -263,17 +290,22 @@ length_is n small =
 
 framed_is : (printed : Printed) → IsPrinted printed → framed (head_in printed) ≡ Some (length printed.body)
 unfolding framed body_length
-framed_is printed h = at (length printed.location == 0) printed.last
+framed_is printed h = at (length printed.location == 0) (length printed.tag == 0) printed.last
   where
     n : ℕ
     n = length printed.body
 
-    at : (b c : Bool) → body_length (map name_and_value (typed ∷ measured n
-        ∷ (cond b [] (record { name = codes "Location"; raw = 32 ∷ printed.location; end = crlf } ∷ []) ++ closed c))) ≡ Some n
-    at true true = length_is n h.body
-    at true false = length_is n h.body
-    at false true = length_is n h.body
-    at false false = length_is n h.body
+    at : (b t c : Bool) → body_length (map name_and_value (typed ∷ measured n
+        ∷ (cond b [] (record { name = codes "Location"; raw = 32 ∷ printed.location; end = crlf } ∷ [])
+        ++ (cond t [] (record { name = codes "ETag"; raw = 32 ∷ printed.tag; end = crlf } ∷ []) ++ closed c)))) ≡ Some n
+    at true true true = length_is n h.body
+    at true true false = length_is n h.body
+    at true false true = length_is n h.body
+    at true false false = length_is n h.body
+    at false true true = length_is n h.body
+    at false true false = length_is n h.body
+    at false false true = length_is n h.body
+    at false false false = length_is n h.body
 
 -- ---- a whole reply
 
@@ -283,6 +315,13 @@ short_location location short = at (length location == 0)
     at : (b : Bool) → length (cond b [] (line (codes "Location: " ++ location))) ≤ 8204
     at true = omega arith
     at false = omega (arith, short, length-append (codes "Location: " ++ location) (codes "\r\n"), length-append (codes "Location: ") location)
+
+tag_is_short : (tag : List ℕ) → length tag ≤ 128 → length (tag_line tag) ≤ 136
+tag_is_short tag short = at (length tag == 0)
+  where
+    at : (b : Bool) → length (cond b [] (line (codes "ETag: " ++ tag))) ≤ 136
+    at true = omega arith
+    at false = omega (arith, short, length-append (codes "ETag: " ++ tag) (codes "\r\n"), length-append (codes "ETag: ") tag)
 
 short_last : (last : Bool) → length (last_line last) ≤ 30
 short_last true = omega arith
@@ -315,15 +354,18 @@ short_head printed h =
     let b = line (codes "Content-Type: application/json") in
     let c = length_line (length printed.body) in
     let d = location_line printed.location in
+    let t = tag_line printed.tag in
     let e = last_line printed.last in
     omega (
       arith,
       short_status printed.code (is_good_code printed.code h.code),
       short_length (length printed.body) h.body,
       short_location printed.location h.short,
+      tag_is_short printed.tag h.short_tag,
       short_last printed.last,
-      length-append (a ++ b ++ c ++ d ++ e) (line []),
-      length-append (a ++ b ++ c ++ d) e,
+      length-append (a ++ b ++ c ++ d ++ t ++ e) (line []),
+      length-append (a ++ b ++ c ++ d ++ t) e,
+      length-append (a ++ b ++ c ++ d) t,
       length-append (a ++ b ++ c) d,
       length-append (a ++ b) c,
       length-append a b,

@@ -46,12 +46,14 @@ StatusesTell = (words : Option ClientWords) (before after : Outside) (status : �
 
 -- ---- what a server prints
 
--- A reply that a server prints, with a path of up to 8,192 bytes that may stand in a header: the code is one of those that it
--- has, and the body is not too long.
+-- A reply that a server prints, with a path of up to 8,192 bytes and an entity tag of up to 128 that may stand in a header:
+-- the code is one of those that it has, and the body is not too long.
 pub record IsPrinted (printed : Printed) : Type 0 where
   pub code : is_reply_code printed.code ≡ true
   pub short : length printed.location ≤ 8192
   pub visible : list_all is_value_byte printed.location ≡ true
+  pub short_tag : length printed.tag ≤ 128
+  pub visible_tag : list_all is_value_byte printed.tag ≡ true
   pub body : length printed.body ≤ max_body
 
 -- Where its body tells something behind its code, the bytes of such a reply are a whole reply that tells so.

@@ -36,16 +36,16 @@ patches : (s : State) (project : List ℕ) (k : ObjectKind) (pool instance name 
 patches s project kind.Instance pool instance name body formed other found e = there body (instance_named s.instances project name) found e
 patches s project k pool instance name body formed other found e = cc
 
-by-what : (s : State) (project : List ℕ) (w : What) (moment : ℕ) → is_request w ≡ true → is_object_command w ≡ false → way_of w ≡ way.Change
-    → names_broken s (command_of project w) ≡ None → changes_in (plan_of s (command_of project w) moment) ≡ None → ⊥
+by-what : (s : State) (project : List ℕ) (expects : Option (List ℕ)) (w : What) (moment : ℕ) → is_request w ≡ true → is_object_command w ≡ false → way_of w ≡ way.Change
+    → names_broken s (command_of project expects w) ≡ None → changes_in (plan_of s (command_of project expects w) moment) ≡ None → ⊥
 unfolding plan_of
-by-what s project (what.Patch of body) moment formed other is free e =
-    patches s project of.kind of.pool of.instance of.name body formed other (its-object s project (what.Patch of body) of (about-patch of body) free) e
-by-what s project w moment formed other is free e = cc
+by-what s project expects (what.Patch of body) moment formed other is free e =
+    patches s project of.kind of.pool of.instance of.name body formed other (its-object s project expects (what.Patch of body) of (about-patch of body) free) e
+by-what s project expects w moment formed other is free e = cc
 
 pub changes-some : (s : State) (c : Command) (moment : ℕ) → is_formed c ≡ true → is_object_command c.what ≡ false → way_of c.what ≡ way.Change
     → names_broken s c ≡ None → changes_in (plan_of s c moment) ≢ None
-changes-some s c moment formed other is free = by-what s c.project c.what moment formed other is free
+changes-some s c moment formed other is free = by-what s c.project c.expects c.what moment formed other is free
 
 -- the operation that a cancel names
 pub cancels : (w : What) (number : ℕ) → way_of w ≡ way.Cancel number → w ≡ what.Cancel number

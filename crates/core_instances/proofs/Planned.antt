@@ -80,32 +80,32 @@ module _ (s : State) (project pool instance name : List ℕ) where
   restores k snapshot formed found kept e = cc
 
 -- nothing that the command needs is missing
-none-missing : (s : State) (project : List ℕ) (w : What) → names_broken s (command_of project w) ≡ None → what_is_missing s project w ≡ None
-none-missing s project w free = (names-right s (command_of project w) free).objects
+none-missing : (s : State) (project : List ℕ) (expects : Option (List ℕ)) (w : What) → names_broken s (command_of project expects w) ≡ None → what_is_missing s project w ≡ None
+none-missing s project expects w free = (names-right s (command_of project expects w) free).objects
 
-by-what : (s : State) (project : List ℕ) (w : What) (moment : ℕ) → is_request w ≡ true → is_object_command w ≡ false → way_of w ≡ way.Begin
-    → names_broken s (command_of project w) ≡ None → what_is_missing s project w ≡ None → task_in (plan_of s (command_of project w) moment) ≡ None → ⊥
+by-what : (s : State) (project : List ℕ) (expects : Option (List ℕ)) (w : What) (moment : ℕ) → is_request w ≡ true → is_object_command w ≡ false → way_of w ≡ way.Begin
+    → names_broken s (command_of project expects w) ≡ None → what_is_missing s project w ≡ None → task_in (plan_of s (command_of project expects w) moment) ≡ None → ⊥
 unfolding plan_of what_is_missing
-by-what s project (what.Create of body) moment formed other is free found e =
+by-what s project expects (what.Create of body) moment formed other is free found e =
     creates s project of.pool of.instance of.name body moment of.kind formed other found e
-by-what s project (what.Put of body) moment formed other is free found e =
-    puts s project of.pool of.instance of.name of.kind body formed other (its-object s project (what.Put of body) of (about-put of body) free) e
-by-what s project (what.Move of to) moment formed other is free found e =
-    moves s project of.pool of.instance of.name of.kind to formed other (its-object s project (what.Move of to) of (about-move of to) free) e
-by-what s project (what.Delete of) moment formed other is free found e =
-    deletes s project of.pool of.instance of.name of.kind formed other (its-object s project (what.Delete of) of (about-delete of) free) e
-by-what s project (what.Act of action) moment formed other is free found e =
+by-what s project expects (what.Put of body) moment formed other is free found e =
+    puts s project of.pool of.instance of.name of.kind body formed other (its-object s project expects (what.Put of body) of (about-put of body) free) e
+by-what s project expects (what.Move of to) moment formed other is free found e =
+    moves s project of.pool of.instance of.name of.kind to formed other (its-object s project expects (what.Move of to) of (about-move of to) free) e
+by-what s project expects (what.Delete of) moment formed other is free found e =
+    deletes s project of.pool of.instance of.name of.kind formed other (its-object s project expects (what.Delete of) of (about-delete of) free) e
+by-what s project expects (what.Act of action) moment formed other is free found e =
     acts s project of.pool of.instance of.name of.kind action formed found e
-by-what s project (what.Restore of snapshot) moment formed other is free found e =
+by-what s project expects (what.Restore of snapshot) moment formed other is free found e =
     let parts = none_both (object_missing s project of) _ found in
     restores s project of.pool of.instance of.name of.kind snapshot formed parts.0 (none_both (snapshot_missing s project of.name snapshot) None parts.1).0 e
-by-what s project w moment formed other is free found e = cc
+by-what s project expects w moment formed other is free found e = cc
 
 -- a command that begins an operation has a plan for it
 pub is-planned : (s : State) (c : Command) (moment : ℕ) → is_formed c ≡ true → is_object_command c.what ≡ false → way_of c.what ≡ way.Begin
     → names_broken s c ≡ None → task_in (plan_of s c moment) ≡ None → ⊥
 is-planned s c moment formed other is free e =
-    by-what s c.project c.what moment formed other is free (none-missing s c.project c.what free) e
+    by-what s c.project c.expects c.what moment formed other is free (none-missing s c.project c.expects c.what free) e
 
 -- the plan of the operation that begins
 pub plan-starts : (plan : Plan) (task : Task) → task_in plan ≡ Some task → plan ≡ starts task

@@ -1,6 +1,6 @@
 -- A read as one step of the machine.
 use Rattle.std.specs.Prelude.{pos, negsuc}
-use Rattle.std.proofs.Common.{◌≡◌, ℕ, false, cond, List, refl, ap}
+use Rattle.std.proofs.Common.{Option, ◌≡◌, ℕ, false, cond, List, refl, ap}
 use Rattle.records.specs.declared.commands.Command.{Command}
 use Rattle.records.specs.declared.commands.What.{What}
 use Rattle.records.specs.declared.commands.What.TheVariants as what
@@ -17,25 +17,25 @@ use Rattle.core_instances.specs.Waits.{is_held}
 use Rattle.core_instances.specs.Ways.{way_of}
 
 -- each of them only reads, but for a wait that is held
-reads-only : (s : State) (project : List ℕ) (w : What) (moment : ℕ) → way_of w ≡ way.Read → is_held s w ≡ false → ReadsOnly s (command_of project w) moment
+reads-only : (s : State) (project : List ℕ) (expects : Option (List ℕ)) (w : What) (moment : ℕ) → way_of w ≡ way.Read → is_held s w ≡ false → ReadsOnly s (command_of project expects w) moment
 unfolding plan_of cancel_broken read
-reads-only s project what.Root moment is answered = record { plan = refl; uncancelled = refl; answers = refl }
-reads-only s project what.Server moment is answered = record { plan = refl; uncancelled = refl; answers = refl }
-reads-only s project (what.List of recursion) moment is answered = record { plan = refl; uncancelled = refl; answers = refl }
-reads-only s project (what.Get of) moment is answered = record { plan = refl; uncancelled = refl; answers = refl }
-reads-only s project (what.State of) moment is answered = record { plan = refl; uncancelled = refl; answers = refl }
-reads-only s project (what.GetOp op) moment is answered = record { plan = refl; uncancelled = refl; answers = refl }
-reads-only s project (what.Wait op (pos n)) moment is answered = record {
+reads-only s project expects what.Root moment is answered = record { plan = refl; uncancelled = refl; answers = refl }
+reads-only s project expects what.Server moment is answered = record { plan = refl; uncancelled = refl; answers = refl }
+reads-only s project expects (what.List of recursion) moment is answered = record { plan = refl; uncancelled = refl; answers = refl }
+reads-only s project expects (what.Get of) moment is answered = record { plan = refl; uncancelled = refl; answers = refl }
+reads-only s project expects (what.State of) moment is answered = record { plan = refl; uncancelled = refl; answers = refl }
+reads-only s project expects (what.GetOp op) moment is answered = record { plan = refl; uncancelled = refl; answers = refl }
+reads-only s project expects (what.Wait op (pos n)) moment is answered = record {
   plan = refl;
   uncancelled = refl;
   answers = ap (λ held. and_then (cond held (answer.Hold op) (answer.Reply (read s project (what.Wait op (pos n))))) s) answered;
 }
-reads-only s project (what.Wait op (negsuc n)) moment is answered = record {
+reads-only s project expects (what.Wait op (negsuc n)) moment is answered = record {
   plan = refl;
   uncancelled = refl;
   answers = ap (λ held. and_then (cond held (answer.Hold op) (answer.Reply (read s project (what.Wait op (negsuc n))))) s) answered;
 }
-reads-only s project other moment is answered = cc
+reads-only s project expects other moment is answered = cc
 
 pub reads : (s : State) (c : Command) (moment : ℕ) → way_of c.what ≡ way.Read → is_held s c.what ≡ false → ReadsOnly s c moment
-reads s c moment is answered = reads-only s c.project c.what moment is answered
+reads s c moment is answered = reads-only s c.project c.expects c.what moment is answered

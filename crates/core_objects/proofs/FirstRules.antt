@@ -11,6 +11,7 @@ use Rattle.records.specs.declared.commands.What.TheVariants as what
 use Rattle.records.specs.declared.refusals.Refusal.{Refusal}
 use Rattle.row_machine.specs.machine.State.{State}
 use Rattle.row_machine.specs.machine.Plans.{plan_of}
+use Rattle.row_machine.specs.machine.Expectations.{not_as_expected}
 use Rattle.row_machine.specs.machine.Rules.{names_broken}
 use Rattle.row_machine.specs.machine.Rules.{standing_broken}
 use Rattle.row_machine.specs.machine.Rules.{broken, plan_broken}
@@ -34,16 +35,18 @@ refuses-first s c moment (or.Why r) e = first-stays (names_broken s c) (standing
 
 -- a command that speaks of no row breaks none of both
 module _ (s : State) (project : List ℕ) where
-  unbroken_by : (w : What) → speaks_of_no_row w ≡ true
-      → first (names_broken s (command_of project w) ∷ standing_broken s (command_of project w) ∷ []) ≡ None
-  unfolding names_broken standing_broken project_missing what_is_missing instance_busy wrong_state object_protected object_used
-      project_occupied profile_held
-  unbroken_by what.Root e = refl
-  unbroken_by what.Server e = refl
-  unbroken_by other e = cc
+  unbroken_by : (expects : Option (List ℕ)) (w : What) → speaks_of_no_row w ≡ true
+      → first (names_broken s (command_of project expects w) ∷ standing_broken s (command_of project expects w) ∷ []) ≡ None
+  unfolding names_broken standing_broken project_missing what_is_missing not_as_expected instance_busy wrong_state object_protected
+      object_used project_occupied profile_held
+  unbroken_by None what.Root e = refl
+  unbroken_by None what.Server e = refl
+  unbroken_by (Some tag) what.Root e = refl
+  unbroken_by (Some tag) what.Server e = refl
+  unbroken_by expects other e = cc
 
 pub unbroken : (s : State) (c : Command) → speaks_of_no_row c.what ≡ true → first (names_broken s c ∷ standing_broken s c ∷ []) ≡ None
-unbroken s c e = unbroken_by s c.project c.what e
+unbroken s c e = unbroken_by s c.project c.expects c.what e
 
 -- none of both is broken
 pub both-free : (s : State) (c : Command) → first (names_broken s c ∷ standing_broken s c ∷ []) ≡ None → (names_broken s c ≡ None) × (standing_broken s c ≡ None)

@@ -61,8 +61,8 @@ module _ (s : State) (project pool instance name : List ℕ) where
   row-changes other plan built each there e = cc
 
 -- the object of a command that passes the rules on names is there
-pub its-object : (s : State) (project : List ℕ) (w : What) (of : Target) → IsAbout w of → names_broken s (command_of project w) ≡ None → is_there s project of ≡ true
-its-object s project w of about free = (it-is_there about (names-right s (command_of project w) free)).1
+pub its-object : (s : State) (project : List ℕ) (expects : Option (List ℕ)) (w : What) (of : Target) → IsAbout w of → names_broken s (command_of project expects w) ≡ None → is_there s project of ≡ true
+its-object s project expects w of about free = (it-is_there about (names-right s (command_of project expects w) free)).1
 
 module _ (s : State) (project : List ℕ) (of : Target) where
   puts-each : (k : ObjectKind) (body : Body) → ChangesEach k (plan_put s project of body)
@@ -105,17 +105,17 @@ volume-made s home of body moment origin.None built e = cc
 volume-made s home of body moment (origin.Image alias) built e = cc
 volume-made s home of body moment (origin.Copy from snapshot pool) built e = cc
 
-creates : (s : State) (project : List ℕ) (k : ObjectKind) (pool instance name : List ℕ) (body : Body) (moment : ℕ)
+creates : (s : State) (project : List ℕ) (expects : Option (List ℕ)) (k : ObjectKind) (pool instance name : List ℕ) (body : Body) (moment : ℕ)
     → is_object_command (what.Create (target k pool instance name) body) ≡ true
-    → changes_in (plan_of s (command_of project (what.Create (target k pool instance name) body)) moment) ≡ None → ⊥
+    → changes_in (plan_of s (command_of project expects (what.Create (target k pool instance name) body)) moment) ≡ None → ⊥
 unfolding plan_of
-creates s project kind.Project pool instance name body moment built e = cc
-creates s project kind.Profile pool instance name body moment built e = cc
-creates s project kind.Network pool instance name body moment built e = cc
-creates s project kind.Pool pool instance name body moment built e = cc
-creates s project kind.Volume pool instance name body moment built e =
+creates s project expects kind.Project pool instance name body moment built e = cc
+creates s project expects kind.Profile pool instance name body moment built e = cc
+creates s project expects kind.Network pool instance name body moment built e = cc
+creates s project expects kind.Pool pool instance name body moment built e = cc
+creates s project expects kind.Volume pool instance name body moment built e =
     volume-made s (home_of s.projects project kind.Volume) (target kind.Volume pool instance name) body moment body.origin built e
-creates s project other pool instance name body moment built e = cc
+creates s project expects other pool instance name body moment built e = cc
 
 -- of two tests that pass, the first
 first-passes : (a b : Bool) → (a && b) ≡ true → a ≡ true
@@ -123,25 +123,25 @@ first-passes true b e = refl
 first-passes false b e = e
 
 -- a command on objects that does not read and passes the rules on names changes rows at once
-by-what : (s : State) (project : List ℕ) (w : What) (moment : ℕ) → is_request w ≡ true → is_object_command w ≡ true → is_read w ≡ false
-    → names_broken s (command_of project w) ≡ None → changes_in (plan_of s (command_of project w) moment) ≡ None → ⊥
+by-what : (s : State) (project : List ℕ) (expects : Option (List ℕ)) (w : What) (moment : ℕ) → is_request w ≡ true → is_object_command w ≡ true → is_read w ≡ false
+    → names_broken s (command_of project expects w) ≡ None → changes_in (plan_of s (command_of project expects w) moment) ≡ None → ⊥
 unfolding plan_of
-by-what s project (what.Create of body) moment formed built reads free e = creates s project of.kind of.pool of.instance of.name body moment built e
-by-what s project (what.Put of body) moment formed built reads free e =
+by-what s project expects (what.Create of body) moment formed built reads free e = creates s project expects of.kind of.pool of.instance of.name body moment built e
+by-what s project expects (what.Put of body) moment formed built reads free e =
     row-changes s project of.pool of.instance of.name of.kind (plan_put s project of body) built (puts-each s project of of.kind body)
-    (its-object s project (what.Put of body) of (about-put of body) free) e
-by-what s project (what.Patch of body) moment formed built reads free e =
+    (its-object s project expects (what.Put of body) of (about-put of body) free) e
+by-what s project expects (what.Patch of body) moment formed built reads free e =
     row-changes s project of.pool of.instance of.name of.kind (plan_patch body) built (patches-each s project of of.kind body)
-    (its-object s project (what.Patch of body) of (about-patch of body) free) e
-by-what s project (what.Move of to) moment formed built reads free e =
+    (its-object s project expects (what.Patch of body) of (about-patch of body) free) e
+by-what s project expects (what.Move of to) moment formed built reads free e =
     row-changes s project of.pool of.instance of.name of.kind (plan_move s project of to) built
     (moves-each s project of of.kind to (first-passes (is_renamable of.kind) _ formed))
-    (its-object s project (what.Move of to) of (about-move of to) free) e
-by-what s project (what.Delete of) moment formed built reads free e =
+    (its-object s project expects (what.Move of to) of (about-move of to) free) e
+by-what s project expects (what.Delete of) moment formed built reads free e =
     row-changes s project of.pool of.instance of.name of.kind (plan_delete s project of) built (deletes-each s project of of.kind)
-    (its-object s project (what.Delete of) of (about-delete of) free) e
-by-what s project other moment formed built reads free e = cc
+    (its-object s project expects (what.Delete of) of (about-delete of) free) e
+by-what s project expects other moment formed built reads free e = cc
 
 pub object-changes : (s : State) (c : Command) (moment : ℕ) → is_formed c ≡ true → is_object_command c.what ≡ true → is_read c.what ≡ false → names_broken s c ≡ None
     → changes_in (plan_of s c moment) ≡ None → ⊥
-object-changes s c moment formed built reads free e = by-what s c.project c.what moment formed built reads free e
+object-changes s c moment formed built reads free e = by-what s c.project c.expects c.what moment formed built reads free e

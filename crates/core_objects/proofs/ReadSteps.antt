@@ -29,8 +29,8 @@ use Rattle.core_rows.proofs.Following.{follows-why}
 use Rattle.core_objects.specs.Answers.{is_read, IsAnswer}
 
 -- a command in a project
-abbrev asks : List ℕ → What → Command
-asks project asked = record { project = project; what = asked }
+abbrev asks : List ℕ → Option (List ℕ) → What → Command
+asks project expects asked = record { project = project; what = asked; expects = expects }
 
 -- of a command that makes nothing of the state, refused or not
 none-of : (o : Option Refusal) → unless_refused o nothing ≡ []
@@ -44,18 +44,18 @@ pub record ReadsOnly (s : State) (c : Command) (moment : ℕ) : Type 0 where
   pub answers : cancel_or_read s c moment c.what ≡ and_then (answer.Reply (read s c.project c.what)) s
 
 -- each read is one
-reads-only : (s : State) (project : List ℕ) (w : What) (moment : ℕ) → is_read w ≡ true → ReadsOnly s (asks project w) moment
+reads-only : (s : State) (project : List ℕ) (expects : Option (List ℕ)) (w : What) (moment : ℕ) → is_read w ≡ true → ReadsOnly s (asks project expects w) moment
 unfolding plan_of cancel_broken
-reads-only s project what.Root moment is = record { plan = refl; uncancelled = refl; answers = refl }
-reads-only s project what.Server moment is = record { plan = refl; uncancelled = refl; answers = refl }
-reads-only s project (what.List of recursion) moment is = record { plan = refl; uncancelled = refl; answers = refl }
-reads-only s project (what.Get of) moment is = record { plan = refl; uncancelled = refl; answers = refl }
-reads-only s project (what.State of) moment is = record { plan = refl; uncancelled = refl; answers = refl }
-reads-only s project (what.GetOp op) moment is = record { plan = refl; uncancelled = refl; answers = refl }
-reads-only s project other moment is = cc
+reads-only s project expects what.Root moment is = record { plan = refl; uncancelled = refl; answers = refl }
+reads-only s project expects what.Server moment is = record { plan = refl; uncancelled = refl; answers = refl }
+reads-only s project expects (what.List of recursion) moment is = record { plan = refl; uncancelled = refl; answers = refl }
+reads-only s project expects (what.Get of) moment is = record { plan = refl; uncancelled = refl; answers = refl }
+reads-only s project expects (what.State of) moment is = record { plan = refl; uncancelled = refl; answers = refl }
+reads-only s project expects (what.GetOp op) moment is = record { plan = refl; uncancelled = refl; answers = refl }
+reads-only s project expects other moment is = cc
 
 pub reads : (s : State) (c : Command) (moment : ℕ) → is_read c.what ≡ true → ReadsOnly s c moment
-reads s c moment is = reads-only s c.project c.what moment is
+reads s c moment is = reads-only s c.project c.expects c.what moment is
 
 module _ (s : State) (c : Command) (moment : ℕ) (h : ReadsOnly s c moment) where
   -- a read changes nothing

@@ -37,8 +37,8 @@ use Rattle.core_rows.specs.Planned.{IsToDo}
 -- ---- a policy blocks snapshots alone, which begin an operation
 
 -- a command in a project
-abbrev asks : List ℕ → What → Command
-asks project asked = record { project = project; what = asked }
+abbrev asks : List ℕ → Option (List ℕ) → What → Command
+asks project expects asked = record { project = project; what = asked; expects = expects }
 
 -- a plan that is made where an object is there, and begins an operation, makes no changes at once
 begins-none : {X : Type 0} (o : Option X) (task : X → Task) (cs : List RowChange) → if_there (λ x. starts (task x)) o ≡ changes cs → ⊥
@@ -46,26 +46,26 @@ begins-none None task cs e = cc
 begins-none (Some x) task cs e = cc
 
 -- a creation, by the kind of the object
-creation-unblocked : (s : State) (project : List ℕ) (k : ObjectKind) (pool instance name : List ℕ) (body : Body) (moment : ℕ) (cs : List RowChange)
-    → plan_of s (asks project (what.Create (record { kind = k; pool = pool; instance = instance; name = name }) body)) moment ≡ changes cs
-    → snapshot_blocked s (asks project (what.Create (record { kind = k; pool = pool; instance = instance; name = name }) body)) ≡ None
+creation-unblocked : (s : State) (project : List ℕ) (expects : Option (List ℕ)) (k : ObjectKind) (pool instance name : List ℕ) (body : Body) (moment : ℕ) (cs : List RowChange)
+    → plan_of s (asks project expects (what.Create (record { kind = k; pool = pool; instance = instance; name = name }) body)) moment ≡ changes cs
+    → snapshot_blocked s (asks project expects (what.Create (record { kind = k; pool = pool; instance = instance; name = name }) body)) ≡ None
 unfolding snapshot_blocked plan_of
-creation-unblocked s project kind.Project pool instance name body moment cs e = refl
-creation-unblocked s project kind.Profile pool instance name body moment cs e = refl
-creation-unblocked s project kind.Network pool instance name body moment cs e = refl
-creation-unblocked s project kind.Pool pool instance name body moment cs e = refl
-creation-unblocked s project kind.Volume pool instance name body moment cs e = refl
-creation-unblocked s project kind.Instance pool instance name body moment cs e = refl
-creation-unblocked s project kind.Snapshot pool instance name body moment cs e =
+creation-unblocked s project expects kind.Project pool instance name body moment cs e = refl
+creation-unblocked s project expects kind.Profile pool instance name body moment cs e = refl
+creation-unblocked s project expects kind.Network pool instance name body moment cs e = refl
+creation-unblocked s project expects kind.Pool pool instance name body moment cs e = refl
+creation-unblocked s project expects kind.Volume pool instance name body moment cs e = refl
+creation-unblocked s project expects kind.Instance pool instance name body moment cs e = refl
+creation-unblocked s project expects kind.Snapshot pool instance name body moment cs e =
     absurd (begins-none (instance_named s.instances project instance)
     (λ i. snapshot_creation project (with_name s project (record { kind = kind.Snapshot; pool = pool; instance = instance; name = name })) moment i) cs e)
-creation-unblocked s project kind.Operation pool instance name body moment cs e = refl
+creation-unblocked s project expects kind.Operation pool instance name body moment cs e = refl
 
-unblocked : (s : State) (project : List ℕ) (asked : What) (moment : ℕ) (cs : List RowChange)
-    → plan_of s (asks project asked) moment ≡ changes cs → snapshot_blocked s (asks project asked) ≡ None
+unblocked : (s : State) (project : List ℕ) (expects : Option (List ℕ)) (asked : What) (moment : ℕ) (cs : List RowChange)
+    → plan_of s (asks project expects asked) moment ≡ changes cs → snapshot_blocked s (asks project expects asked) ≡ None
 unfolding snapshot_blocked
-unblocked s project (what.Create of body) moment cs e = creation-unblocked s project of.kind of.pool of.instance of.name body moment cs e
-unblocked s project other moment cs e = refl
+unblocked s project expects (what.Create of body) moment cs e = creation-unblocked s project expects of.kind of.pool of.instance of.name body moment cs e
+unblocked s project expects other moment cs e = refl
 
 -- ---- the rules that are left
 
@@ -91,7 +91,7 @@ left-broken s c moment cs n d =
     ap (λ o. first (o ∷ standing_broken s c ∷ plan_broken s c (plan_of s c moment) moment ∷ [])) d.names
     ∙ ap (λ o. first (o ∷ plan_broken s c (plan_of s c moment) moment ∷ [])) d.standing
     ∙ ap (λ p. first (plan_broken s c p moment ∷ [])) d.plan
-    ∙ ap (λ o. first (first (first (settings ∷ policy ∷ o ∷ counts ∷ limits ∷ []) ∷ None ∷ tables ∷ []) ∷ [])) (unblocked s c.project c.what moment cs d.plan)
+    ∙ ap (λ o. first (first (first (settings ∷ policy ∷ o ∷ counts ∷ limits ∷ []) ∷ None ∷ tables ∷ []) ∷ [])) (unblocked s c.project c.expects c.what moment cs d.plan)
     ∙ flat settings policy counts limits tables
 
 -- a command that breaks none is accepted

@@ -84,28 +84,28 @@ found-entered s task moment kept =
 
 -- ---- the rules that it breaks
 
-abbrev asks : List ℕ → What → Command
-asks project asked = record { project = project; what = asked }
+abbrev asks : List ℕ → Option (List ℕ) → What → Command
+asks project expects asked = record { project = project; what = asked; expects = expects }
 
 -- the rule on new snapshots reads no operations
-snapshot-alike : (s : State) (task : Task) (moment : ℕ) (project : List ℕ) (k : ObjectKind) (pool instance name : List ℕ) (body : Body)
-    → snapshot_blocked (claiming s task moment) (asks project (what.Create (record { kind = k; pool = pool; instance = instance; name = name }) body))
-    ≡ snapshot_blocked s (asks project (what.Create (record { kind = k; pool = pool; instance = instance; name = name }) body))
+snapshot-alike : (s : State) (task : Task) (moment : ℕ) (project : List ℕ) (expects : Option (List ℕ)) (k : ObjectKind) (pool instance name : List ℕ) (body : Body)
+    → snapshot_blocked (claiming s task moment) (asks project expects (what.Create (record { kind = k; pool = pool; instance = instance; name = name }) body))
+    ≡ snapshot_blocked s (asks project expects (what.Create (record { kind = k; pool = pool; instance = instance; name = name }) body))
 unfolding snapshot_blocked
-snapshot-alike s task moment project kind.Project pool instance name body = refl
-snapshot-alike s task moment project kind.Profile pool instance name body = refl
-snapshot-alike s task moment project kind.Network pool instance name body = refl
-snapshot-alike s task moment project kind.Pool pool instance name body = refl
-snapshot-alike s task moment project kind.Volume pool instance name body = refl
-snapshot-alike s task moment project kind.Instance pool instance name body = refl
-snapshot-alike s task moment project kind.Snapshot pool instance name body = refl
-snapshot-alike s task moment project kind.Operation pool instance name body = refl
+snapshot-alike s task moment project expects kind.Project pool instance name body = refl
+snapshot-alike s task moment project expects kind.Profile pool instance name body = refl
+snapshot-alike s task moment project expects kind.Network pool instance name body = refl
+snapshot-alike s task moment project expects kind.Pool pool instance name body = refl
+snapshot-alike s task moment project expects kind.Volume pool instance name body = refl
+snapshot-alike s task moment project expects kind.Instance pool instance name body = refl
+snapshot-alike s task moment project expects kind.Snapshot pool instance name body = refl
+snapshot-alike s task moment project expects kind.Operation pool instance name body = refl
 
-alike : (s : State) (task : Task) (moment : ℕ) (project : List ℕ) (asked : What)
-    → snapshot_blocked (claiming s task moment) (asks project asked) ≡ snapshot_blocked s (asks project asked)
+alike : (s : State) (task : Task) (moment : ℕ) (project : List ℕ) (expects : Option (List ℕ)) (asked : What)
+    → snapshot_blocked (claiming s task moment) (asks project expects asked) ≡ snapshot_blocked s (asks project expects asked)
 unfolding snapshot_blocked
-alike s task moment project (what.Create of body) = snapshot-alike s task moment project of.kind of.pool of.instance of.name body
-alike s task moment project other = refl
+alike s task moment project expects (what.Create of body) = snapshot-alike s task moment project expects of.kind of.pool of.instance of.name body
+alike s task moment project expects other = refl
 
 -- a list of rules within lists, as one list
 flat : {R : Type 0} (a b x c d e t : Option R)
@@ -151,7 +151,7 @@ left-claim s c moment task used whole d serves =
     ∙ ap (λ o. first (o ∷ plan_broken s c (plan_of s c moment) moment ∷ [])) d.standing
     ∙ ap (λ p. first (plan_broken s c p moment ∷ [])) d.plan
     ∙ flat settings policy (snapshot_blocked s c) counts limits entry tables
-    ∙ ap (λ o. first (settings ∷ policy ∷ o ∷ counts ∷ limits ∷ entry ∷ tables ∷ [])) (sym (alike s task moment c.project c.what))
+    ∙ ap (λ o. first (settings ∷ policy ∷ o ∷ counts ∷ limits ∷ entry ∷ tables ∷ [])) (sym (alike s task moment c.project c.expects c.what))
     ∙ ap (λ o. first (settings ∷ o ∷ blocked ∷ counts ∷ limits ∷ entry ∷ tables ∷ [])) (policy-alone s task moment alone)
     ∙ ap (λ o. first (settings ∷ claim_forbidden later task ∷ blocked ∷ o ∷ limits ∷ entry ∷ tables ∷ [])) (counts-alone s task moment alone)
     ∙ ap (λ o. first (settings ∷ claim_forbidden later task ∷ blocked ∷ claim_lacks_amount later (project_of_task task) task ∷ o ∷ entry ∷ tables ∷ [])) (alone.limits ∙ sym serves)

@@ -208,12 +208,12 @@ alone (Some r) = refl
 module _ (s : State) (c : Command) (number moment : ℕ) (asks : c.what ≡ what.Cancel number)
     (names : names_broken s c ≡ None) (standing : standing_broken s c ≡ None) where
   -- it plans nothing
-  none-planned : (project : List ℕ) → plan_of s (command_of project (what.Cancel number)) moment ≡ nothing
+  none-planned : (project : List ℕ) (expects : Option (List ℕ)) → plan_of s (command_of project expects (what.Cancel number)) moment ≡ nothing
   unfolding plan_of
-  none-planned project = refl
+  none-planned project expects = refl
 
   plans : plan_of s c moment ≡ nothing
-  plans = ap (λ w. plan_of s (command_of c.project w) moment) asks ∙ none-planned c.project
+  plans = ap (λ w. plan_of s (command_of c.project c.expects w) moment) asks ∙ none-planned c.project c.expects
 
   -- and is judged by the rules on cancels
   pub left-cancel : broken s c moment ≡ cancel_broken s c.what

@@ -94,13 +94,13 @@ tells a f t number moment same = record {
 }
 
 -- a change at once
-change-few : (s : State) (project : List ℕ) (w : What) (moment : ℕ) → length (change_notices s (command_of project w) moment) ≤ 1
-change-few s project (what.Create of body) moment = one-few (option_map _ (made_life of.kind))
-change-few s project (what.Put of body) moment = one-few (option_map _ (changed_life of.kind))
-change-few s project (what.Patch of body) moment = one-few (option_map _ (changed_life of.kind))
-change-few s project (what.Move of to) moment = one-few (option_map _ (moved_life of.kind))
-change-few s project (what.Delete of) moment = one-few (option_map _ (deleted_life of.kind))
-change-few s project other moment = omega arith
+change-few : (s : State) (project : List ℕ) (expects : Option (List ℕ)) (w : What) (moment : ℕ) → length (change_notices s (command_of project expects w) moment) ≤ 1
+change-few s project expects (what.Create of body) moment = one-few (option_map _ (made_life of.kind))
+change-few s project expects (what.Put of body) moment = one-few (option_map _ (changed_life of.kind))
+change-few s project expects (what.Patch of body) moment = one-few (option_map _ (changed_life of.kind))
+change-few s project expects (what.Move of to) moment = one-few (option_map _ (moved_life of.kind))
+change-few s project expects (what.Delete of) moment = one-few (option_map _ (deleted_life of.kind))
+change-few s project expects other moment = omega arith
 
 -- a success
 lives-few : (d : Deed) → length (deed_lives d) ≤ 2
@@ -165,7 +165,7 @@ carries s c moment (changes cs) = record {
   answer = answer.Reply reply.Empty;
   state = applied s cs;
   untold = change_notices s c moment;
-  few = omega (arith, change-few s c.project c.what moment);
+  few = omega (arith, change-few s c.project c.expects c.what moment);
   is = λ r. ap (λ t. and_then (answer.Reply reply.Empty) (telling (change_notices s c moment) t)) (applied-aside cs s r);
 }
 carries s c moment (starts task) = begins s task moment

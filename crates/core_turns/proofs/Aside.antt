@@ -17,6 +17,7 @@ use Rattle.row_machine.specs.machine.LimitRules.{instance_without_amount, counts
 use Rattle.row_machine.specs.machine.NameRules.{project_missing, what_is_missing, name_broken}
 use Rattle.row_machine.specs.machine.Plans.{Plan, nothing, changes, starts, plan_of}
 use Rattle.row_machine.specs.machine.PolicyRules.{forbids_instance, policy_broken, snapshot_blocked}
+use Rattle.row_machine.specs.machine.Expectations.{not_as_expected}
 use Rattle.row_machine.specs.machine.Rules.{names_broken, standing_broken, after_broken, plan_broken, broken}
 use Rattle.row_machine.specs.machine.SettingRules.{root_missing, profile_missing, devices_miss, instance_settings, profile_settings, row_settings, settings_broken}
 use Rattle.row_machine.specs.machine.StandingRules.{instance_busy, wrong_state, object_protected, object_used, project_occupied, profile_held}
@@ -53,7 +54,7 @@ applied-aside (c ∷ cs) s r = ap (λ t. applied t cs) (changed-aside c s r) ∙
 -- ---- the rules
 
 names-aside : (s : State) (c : Command) (r : Recent) → names_broken (with_recent r s) c ≡ names_broken s c
-unfolding names_broken project_missing what_is_missing name_broken
+unfolding names_broken project_missing what_is_missing not_as_expected name_broken
 names-aside s c r = refl
 
 standing-aside : (s : State) (c : Command) (r : Recent) → standing_broken (with_recent r s) c ≡ standing_broken s c

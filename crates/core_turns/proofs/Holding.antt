@@ -18,6 +18,7 @@ use Rattle.row_machine.specs.declared.events.Event.TheVariants as event
 use Rattle.row_machine.specs.machine.Accept.{and_then, accepted, cancel_or_read, carried_out}
 use Rattle.row_machine.specs.machine.NameRules.{missing_unless, project_missing, what_is_missing}
 use Rattle.row_machine.specs.machine.Plans.{nothing, plan_of}
+use Rattle.row_machine.specs.machine.Expectations.{not_as_expected}
 use Rattle.row_machine.specs.machine.Rules.{broken, names_broken, plan_broken, standing_broken}
 use Rattle.row_machine.specs.machine.StandingRules.{instance_busy, wrong_state, object_protected, object_used, project_occupied, profile_held}
 use Rattle.row_machine.specs.machine.State.{State}
@@ -35,63 +36,65 @@ use Rattle.core_turns.proofs.Turning.{still-comes}
 
 -- ---- no rule is broken
 
-names-free : (s : State) (project : List ℕ) (op : ℕ) (timeout : ℤ) (o : Operation Task) → live_at s.operations op ≡ Some o
-    → names_broken s (command_of project (what.Wait op timeout)) ≡ None
-unfolding names_broken project_missing what_is_missing
-names-free s project op timeout o live =
+names-free : (s : State) (project : List ℕ) (expects : Option (List ℕ)) (op : ℕ) (timeout : ℤ) (o : Operation Task) → live_at s.operations op ≡ Some o
+    → names_broken s (command_of project expects (what.Wait op timeout)) ≡ None
+unfolding names_broken project_missing what_is_missing not_as_expected
+names-free s project None op timeout o live =
+    ap (λ found. option_or (missing_unless (is_some found) kind.Operation (decimal op)) None) (live-kept s op o live)
+names-free s project (Some tag) op timeout o live =
     ap (λ found. option_or (missing_unless (is_some found) kind.Operation (decimal op)) None) (live-kept s op o live)
 
-standing-free : (s : State) (project : List ℕ) (op : ℕ) (timeout : ℤ) → standing_broken s (command_of project (what.Wait op timeout)) ≡ None
+standing-free : (s : State) (project : List ℕ) (expects : Option (List ℕ)) (op : ℕ) (timeout : ℤ) → standing_broken s (command_of project expects (what.Wait op timeout)) ≡ None
 unfolding standing_broken instance_busy wrong_state object_protected object_used project_occupied profile_held
-standing-free s project op timeout = refl
+standing-free s project expects op timeout = refl
 
-plan-free : (s : State) (project : List ℕ) (op : ℕ) (timeout : ℤ) (moment : ℕ)
-    → plan_broken s (command_of project (what.Wait op timeout)) (plan_of s (command_of project (what.Wait op timeout)) moment) moment ≡ None
+plan-free : (s : State) (project : List ℕ) (expects : Option (List ℕ)) (op : ℕ) (timeout : ℤ) (moment : ℕ)
+    → plan_broken s (command_of project expects (what.Wait op timeout)) (plan_of s (command_of project expects (what.Wait op timeout)) moment) moment ≡ None
 unfolding plan_of cancel_broken
-plan-free s project op timeout moment = refl
+plan-free s project expects op timeout moment = refl
 
-wait-free : (s : State) (project : List ℕ) (op : ℕ) (timeout : ℤ) (moment : ℕ) (o : Operation Task) → live_at s.operations op ≡ Some o
-    → broken s (command_of project (what.Wait op timeout)) moment ≡ None
+wait-free : (s : State) (project : List ℕ) (expects : Option (List ℕ)) (op : ℕ) (timeout : ℤ) (moment : ℕ) (o : Operation Task) → live_at s.operations op ≡ Some o
+    → broken s (command_of project expects (what.Wait op timeout)) moment ≡ None
 unfolding broken
-wait-free s project op timeout moment o live =
-    let c = command_of project (what.Wait op timeout) in
-    ap (λ r. first (r ∷ standing_broken s c ∷ plan_broken s c (plan_of s c moment) moment ∷ [])) (names-free s project op timeout o live)
-    ∙ ap (λ r. first (r ∷ plan_broken s c (plan_of s c moment) moment ∷ [])) (standing-free s project op timeout)
-    ∙ ap (λ r. first (r ∷ [])) (plan-free s project op timeout moment)
+wait-free s project expects op timeout moment o live =
+    let c = command_of project expects (what.Wait op timeout) in
+    ap (λ r. first (r ∷ standing_broken s c ∷ plan_broken s c (plan_of s c moment) moment ∷ [])) (names-free s project expects op timeout o live)
+    ∙ ap (λ r. first (r ∷ plan_broken s c (plan_of s c moment) moment ∷ [])) (standing-free s project expects op timeout)
+    ∙ ap (λ r. first (r ∷ [])) (plan-free s project expects op timeout moment)
 
 -- ---- what it comes to
 
-wait-plans : (s : State) (project : List ℕ) (op : ℕ) (timeout : ℤ) (moment : ℕ) → plan_of s (command_of project (what.Wait op timeout)) moment ≡ nothing
+wait-plans : (s : State) (project : List ℕ) (expects : Option (List ℕ)) (op : ℕ) (timeout : ℤ) (moment : ℕ) → plan_of s (command_of project expects (what.Wait op timeout)) moment ≡ nothing
 unfolding plan_of
-wait-plans s project op timeout moment = refl
+wait-plans s project expects op timeout moment = refl
 
 none-of : (o : Option Refusal) → unless_refused o nothing ≡ []
 none-of None = refl
 none-of (Some r) = refl
 
 -- it changes nothing
-wait-changes : (s : State) (project : List ℕ) (op : ℕ) (timeout : ℤ) (moment : ℕ) → changes_of s (command_of project (what.Wait op timeout)) moment ≡ []
+wait-changes : (s : State) (project : List ℕ) (expects : Option (List ℕ)) (op : ℕ) (timeout : ℤ) (moment : ℕ) → changes_of s (command_of project expects (what.Wait op timeout)) moment ≡ []
 unfolding changes_of
-wait-changes s project op timeout moment =
-    let c = command_of project (what.Wait op timeout) in
-    ap (unless_refused (broken s c moment)) (wait-plans s project op timeout moment) ∙ none-of (broken s c moment)
+wait-changes s project expects op timeout moment =
+    let c = command_of project expects (what.Wait op timeout) in
+    ap (unless_refused (broken s c moment)) (wait-plans s project expects op timeout moment) ∙ none-of (broken s c moment)
 
 -- it is held
-held-answer : (s : State) (project : List ℕ) (op : ℕ) (timeout : ℤ) (moment : ℕ) → is_held s (what.Wait op timeout) ≡ true
-    → cancel_or_read s (command_of project (what.Wait op timeout)) moment (what.Wait op timeout) ≡ and_then (answer.Hold op) s
-held-answer s project op (pos n) moment held =
+held-answer : (s : State) (project : List ℕ) (expects : Option (List ℕ)) (op : ℕ) (timeout : ℤ) (moment : ℕ) → is_held s (what.Wait op timeout) ≡ true
+    → cancel_or_read s (command_of project expects (what.Wait op timeout)) moment (what.Wait op timeout) ≡ and_then (answer.Hold op) s
+held-answer s project expects op (pos n) moment held =
     ap (λ h. and_then (cond h (answer.Hold op) (answer.Reply (read s project (what.Wait op (pos n))))) s) held
-held-answer s project op (negsuc n) moment held =
+held-answer s project expects op (negsuc n) moment held =
     ap (λ h. and_then (cond h (answer.Hold op) (answer.Reply (read s project (what.Wait op (negsuc n))))) s) held
 
-held-step : (s : State) (project : List ℕ) (op : ℕ) (timeout : ℤ) (moment : ℕ) (o : Operation Task) → live_at s.operations op ≡ Some o
-    → is_held s (what.Wait op timeout) ≡ true → step s (event.Ask (command_of project (what.Wait op timeout)) moment) well ≡ Some (and_then (answer.Hold op) s)
+held-step : (s : State) (project : List ℕ) (expects : Option (List ℕ)) (op : ℕ) (timeout : ℤ) (moment : ℕ) (o : Operation Task) → live_at s.operations op ≡ Some o
+    → is_held s (what.Wait op timeout) ≡ true → step s (event.Ask (command_of project expects (what.Wait op timeout)) moment) well ≡ Some (and_then (answer.Hold op) s)
 unfolding step accepted
-held-step s project op timeout moment o live held =
-    let c = command_of project (what.Wait op timeout) in
-    ap (after_command s c moment well) (wait-free s project op timeout moment o live)
-    ∙ ap (λ p. Some (carried_out s c moment p)) (wait-plans s project op timeout moment)
-    ∙ ap Some (held-answer s project op timeout moment held)
+held-step s project expects op timeout moment o live held =
+    let c = command_of project expects (what.Wait op timeout) in
+    ap (after_command s c moment well) (wait-free s project expects op timeout moment o live)
+    ∙ ap (λ p. Some (carried_out s c moment p)) (wait-plans s project expects op timeout moment)
+    ∙ ap Some (held-answer s project expects op timeout moment held)
 
 -- ---- by what is found
 
@@ -109,18 +112,18 @@ for-none : (held : Bool) (op : ℕ) → cond held (Some op) None ≡ None → he
 for-none true op e = cc
 for-none false op e = refl
 
-by-what : (s : State) (project : List ℕ) (w : What) (moment number : ℕ) (untold : List Untold) (store : Store) → held_for s w ≡ Some number → untold ≡ []
-    → Comes s store (event.Ask (command_of project w) moment) (answer.Hold number) s untold store
-by-what s project (what.Wait op timeout) moment number untold store e none =
+by-what : (s : State) (project : List ℕ) (expects : Option (List ℕ)) (w : What) (moment number : ℕ) (untold : List Untold) (store : Store) → held_for s w ≡ Some number → untold ≡ []
+    → Comes s store (event.Ask (command_of project expects w) moment) (answer.Hold number) s untold store
+by-what s project expects (what.Wait op timeout) moment number untold store e none =
     let held = for-one (is_held s (what.Wait op timeout)) op number e in
     let live = its-operation (live_at s.operations op) (not (is_zero timeout)) held.0 in
-    subst (λ n. Comes s store (event.Ask (command_of project (what.Wait op timeout)) moment) (answer.Hold n) s untold store) held.1
-    (still-comes untold store none (wait-changes s project op timeout moment) (held-step s project op timeout moment live.0 live.1 held.0))
-by-what s project other moment number untold store e none = cc
+    subst (λ n. Comes s store (event.Ask (command_of project expects (what.Wait op timeout)) moment) (answer.Hold n) s untold store) held.1
+    (still-comes untold store none (wait-changes s project expects op timeout moment) (held-step s project expects op timeout moment live.0 live.1 held.0))
+by-what s project expects other moment number untold store e none = cc
 
 pub hold-comes : (s : State) (c : Command) (moment number : ℕ) (untold : List Untold) (store : Store) → held_for s c.what ≡ Some number → untold ≡ []
     → Comes s store (event.Ask c moment) (answer.Hold number) s untold store
-hold-comes s c moment number untold store e none = by-what s c.project c.what moment number untold store e none
+hold-comes s c moment number untold store e none = by-what s c.project c.expects c.what moment number untold store e none
 
 -- where none is to be waited for, it is not held
 pub unheld : (s : State) (w : What) → held_for s w ≡ None → is_held s w ≡ false

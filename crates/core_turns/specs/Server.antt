@@ -1,5 +1,5 @@
 -- What who asks for the server is told.
-use Rattle.std.specs.Prelude.{ℕ, List}
+use Rattle.std.specs.Prelude.{ℕ, List, None}
 use Rattle.record_keeper.specs.Store.{Store}
 use Rattle.records.specs.declared.commands.Command.{Command}
 use Rattle.records.specs.declared.commands.What.TheVariants as what
@@ -12,7 +12,7 @@ use Rattle.core_turns.specs.Turns.{IsTurn}
 
 -- the command that asks for the server
 abbrev pub server_in : List ℕ → Command
-server_in project = record { project = project; what = what.Server }
+server_in project = record { project = project; what = what.Server; expects = None }
 
 -- Who asks for the server is told of it, whatever the rows are: that breaks no rule, and nothing changes.
 abbrev pub ServerIsTold : Type 0

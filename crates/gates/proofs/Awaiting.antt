@@ -369,18 +369,18 @@ unavailable_leaves s rings nothing = tt
 unavailable_leaves s rings (changes cs) = unchanged s _
 unavailable_leaves s rings (starts task) = tt
 
-cancel_asked : (s : State) (project : List ℕ) (op moment : ℕ) (outcome : Outcome) (refusal : Option Refusal)
+cancel_asked : (s : State) (project : List ℕ) (expects : Option (List ℕ)) (op moment : ℕ) (outcome : Outcome) (refusal : Option Refusal)
     → LeavesBy s (rings_of purpose.Cancel)
-    (after_command s (record { project = project; what = what.Cancel op }) moment outcome refusal)
+    (after_command s (record { project = project; what = what.Cancel op; expects = expects }) moment outcome refusal)
 unfolding accepted plan_of
-cancel_asked s project op moment well (Some refusal) = unchanged s _
-cancel_asked s project op moment well None =
+cancel_asked s project expects op moment well (Some refusal) = unchanged s _
+cancel_asked s project expects op moment well None =
     cancel_leaves s op moment (cancel_answer (kept_at s.operations op)) (cancel_goes (kept_at s.operations op))
-cancel_asked s project op moment (keeper_failed rise) (Some refusal) = tt
-cancel_asked s project op moment (keeper_failed rise) None =
+cancel_asked s project expects op moment (keeper_failed rise) (Some refusal) = tt
+cancel_asked s project expects op moment (keeper_failed rise) None =
     unavailable_leaves s (rings_of purpose.Cancel) nothing
-cancel_asked s project op moment no_memory (Some refusal) = unchanged s _
-cancel_asked s project op moment no_memory None = unchanged s _
+cancel_asked s project expects op moment no_memory (Some refusal) = unchanged s _
+cancel_asked s project expects op moment no_memory None = unchanged s _
 
 plan_leaves : (s : State) (c : Command) (moment : ℕ) (p : Plan) → (cancel_or_read s c moment c.what).state ≡ s
     → LeavesBy s (rings_of purpose.Command) (Some (carried_out s c moment p))
@@ -401,26 +401,26 @@ command_asked s c moment (keeper_failed rise) None reads =
 command_asked s c moment no_memory (Some refusal) reads = unchanged s _
 command_asked s c moment no_memory None reads = unchanged s _
 
-asked_leaves : (s : State) (project : List ℕ) (w : What) (moment : ℕ) (outcome : Outcome) (refusal : Option Refusal)
+asked_leaves : (s : State) (project : List ℕ) (expects : Option (List ℕ)) (w : What) (moment : ℕ) (outcome : Outcome) (refusal : Option Refusal)
     → LeavesBy s (rings_of (purpose_of_command w))
-    (after_command s (record { project = project; what = w }) moment outcome refusal)
-asked_leaves s project (what.Cancel op) moment outcome refusal = cancel_asked s project op moment outcome refusal
-asked_leaves s project what.Root moment outcome refusal = command_asked s _ moment outcome refusal refl
-asked_leaves s project what.Server moment outcome refusal = command_asked s _ moment outcome refusal refl
-asked_leaves s project (what.List of recursion) moment outcome refusal =
+    (after_command s (record { project = project; what = w; expects = expects }) moment outcome refusal)
+asked_leaves s project expects (what.Cancel op) moment outcome refusal = cancel_asked s project expects op moment outcome refusal
+asked_leaves s project expects what.Root moment outcome refusal = command_asked s _ moment outcome refusal refl
+asked_leaves s project expects what.Server moment outcome refusal = command_asked s _ moment outcome refusal refl
+asked_leaves s project expects (what.List of recursion) moment outcome refusal =
     command_asked s _ moment outcome refusal refl
-asked_leaves s project (what.Get of) moment outcome refusal = command_asked s _ moment outcome refusal refl
-asked_leaves s project (what.State of) moment outcome refusal = command_asked s _ moment outcome refusal refl
-asked_leaves s project (what.Create of body) moment outcome refusal = command_asked s _ moment outcome refusal refl
-asked_leaves s project (what.Put of body) moment outcome refusal = command_asked s _ moment outcome refusal refl
-asked_leaves s project (what.Patch of body) moment outcome refusal = command_asked s _ moment outcome refusal refl
-asked_leaves s project (what.Move of to) moment outcome refusal = command_asked s _ moment outcome refusal refl
-asked_leaves s project (what.Delete of) moment outcome refusal = command_asked s _ moment outcome refusal refl
-asked_leaves s project (what.Act of action) moment outcome refusal = command_asked s _ moment outcome refusal refl
-asked_leaves s project (what.Restore of snapshot) moment outcome refusal =
+asked_leaves s project expects (what.Get of) moment outcome refusal = command_asked s _ moment outcome refusal refl
+asked_leaves s project expects (what.State of) moment outcome refusal = command_asked s _ moment outcome refusal refl
+asked_leaves s project expects (what.Create of body) moment outcome refusal = command_asked s _ moment outcome refusal refl
+asked_leaves s project expects (what.Put of body) moment outcome refusal = command_asked s _ moment outcome refusal refl
+asked_leaves s project expects (what.Patch of body) moment outcome refusal = command_asked s _ moment outcome refusal refl
+asked_leaves s project expects (what.Move of to) moment outcome refusal = command_asked s _ moment outcome refusal refl
+asked_leaves s project expects (what.Delete of) moment outcome refusal = command_asked s _ moment outcome refusal refl
+asked_leaves s project expects (what.Act of action) moment outcome refusal = command_asked s _ moment outcome refusal refl
+asked_leaves s project expects (what.Restore of snapshot) moment outcome refusal =
     command_asked s _ moment outcome refusal refl
-asked_leaves s project (what.GetOp op) moment outcome refusal = command_asked s _ moment outcome refusal refl
-asked_leaves s project (what.Wait op timeout) moment outcome refusal = command_asked s _ moment outcome refusal refl
+asked_leaves s project expects (what.GetOp op) moment outcome refusal = command_asked s _ moment outcome refusal refl
+asked_leaves s project expects (what.Wait op timeout) moment outcome refusal = command_asked s _ moment outcome refusal refl
 
 -- ---- calls
 
@@ -524,7 +524,7 @@ closes_leaves s bell.Calls quiet = rings_already quiet
 
 step_leaves : (s : State) (e : Event) (outcome : Outcome) → LeavesBy s (rings_at e) (step s e outcome)
 unfolding step
-step_leaves s (event.Ask c moment) outcome = asked_leaves s c.project c.what moment outcome (broken s c moment)
+step_leaves s (event.Ask c moment) outcome = asked_leaves s c.project c.expects c.what moment outcome (broken s c moment)
 step_leaves s (event.Look number) outcome = always_leaves s (rings_at (event.Look number)) _ outcome (unchanged s _)
 step_leaves s (event.Take moment) outcome = always_leaves s (rings_of purpose.Call) (taken s moment (first_pending s))
     outcome (taken_leaves s moment (first_pending s))

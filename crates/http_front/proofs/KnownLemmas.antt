@@ -42,14 +42,14 @@ pub Takes-held : {old new : List ℕ} {request : Request} (left : Option (List �
 Takes-held {old} {new} {request} left is =
     record { more = []; is = subst (λ b. IsMessage b request new) (sym (append-nil old)) is; from = consumes-none left }
 
-not_some : (upgrade : Option (List ℕ)) → is_some upgrade ≡ false → None ≡ upgrade
+not_some : (text : Option (List ℕ)) → is_some text ≡ false → None ≡ text
 not_some None is = refl
-not_some (Some key) is = cc
+not_some (Some text) is = cc
 
 -- a head that is noted is the whole message that its plain request is
 pub known-noted : (items bytes : List ℕ) (said : Head) (known : Known) → items ≡ bytes → head_len bytes ≡ Some (length bytes) → Says (after_blank bytes) said
-    → said.body ≡ 0 → said.last ≡ false → is_some said.upgrade ≡ false → said.origin ≡ false → known.method ≡ said.method → known.target ≡ said.target → IsKnown items known
-known-noted items bytes said known same ends says no_body going plain own method target = rw same (inr (record {
+    → said.body ≡ 0 → said.last ≡ false → is_some said.upgrade ≡ false → said.origin ≡ false → is_some said.if_match ≡ false → known.method ≡ said.method → known.target ≡ said.target → IsKnown items known
+known-noted items bytes said known same ends says no_body going plain own free method target = rw same (inr (record {
   len = length bytes;
   head = says.head;
   body = 0;
@@ -66,5 +66,6 @@ known-noted items bytes said known same ends says no_body going plain own method
   expects_is = expects-no_body says.head;
   upgrade_is = not_some said.upgrade plain ∙ says.upgrade_is;
   origin_is = sym own ∙ says.origin_is;
+  if_match_is = not_some said.if_match free ∙ says.if_match_is;
   rest_is = sym (drop_all (length bytes + 0) bytes (omega arith));
 }))

@@ -8,7 +8,8 @@ pub record Known : Type 0 where
   pub method : List ℕ
   pub target : List ℕ
 
--- a plain request has no body and no `Origin`, and its connection stays open and asks for no other protocol
+-- a plain request has no body, no `Origin` and no `If-Match`, and its connection stays open and asks for no other
+-- protocol
 abbrev pub plain_request : Known → Request
 plain_request known =
     record {
@@ -19,6 +20,7 @@ plain_request known =
       expects = false;
       upgrade = None;
       origin = false;
+      if_match = None;
     }
 
 -- the head is the whole message that this plain request is; or it is empty, and nothing is known

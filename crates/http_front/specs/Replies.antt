@@ -29,6 +29,10 @@ length_line len = line (codes "Content-Length: " ++ decimal len)
 abbrev pub location_line : List ℕ → List ℕ
 location_line location = if length location == 0 then [] else line (codes "Location: " ++ location)
 
+-- the line of the entity tag, where there is one
+abbrev pub tag_line : List ℕ → List ℕ
+tag_line tag = if length tag == 0 then [] else line (codes "ETag: " ++ tag)
+
 -- the line that says that the connection ends after this reply
 abbrev pub last_line : Bool → List ℕ
 last_line last = if last then line (codes "Connection: close") else []
@@ -40,6 +44,7 @@ head_text printed =
     ++ line (codes "Content-Type: application/json")
     ++ length_line (length printed.body)
     ++ location_line printed.location
+    ++ tag_line printed.tag
     ++ last_line printed.last
     ++ line []
 

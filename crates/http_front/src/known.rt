@@ -67,6 +67,7 @@ impl KnownHead {
             expects: false,
             upgrade: None,
             origin: false,
+            if_match: None,
         })
     }
 
@@ -75,7 +76,12 @@ impl KnownHead {
         requires ends { head_len bytes.now ≡ Some (length bytes.now) }
         requires says { Says (after_blank bytes.now) head.now }
     {
-        if head.body == 0 && !head.last && head.upgrade.is_none() && !head.origin {
+        if head.body == 0
+            && !head.last
+            && head.upgrade.is_none()
+            && !head.origin
+            && head.if_match.is_none()
+        {
             self.head.clear();
             self.method.set(head.method.view())?;
             self.target.set(head.target.view())?;

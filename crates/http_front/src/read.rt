@@ -173,6 +173,7 @@ fn take_request(
         expects: head.expects,
         upgrade: head.upgrade,
         origin: head.origin,
+        if_match: head.if_match,
     })
 }
 

@@ -1,19 +1,21 @@
 ghost use Rattle.std.specs.Prelude.{◌≡◌, ℕ, ◌++◌, List, [], Bool, IfOk, IsTrue, OnOk, string_bytes, decimal, length};
 ghost use Rattle.http_front.specs.declared.reply.Printed.{Printed};
 ghost use Rattle.http_front.specs.Replies.{is_reply_code, phrase_of, status_line, length_line, location_line};
-ghost use Rattle.http_front.specs.Replies.{last_line, head_text, reply_text, no_memory_body, line};
+ghost use Rattle.http_front.specs.Replies.{tag_line, last_line, head_text, reply_text, no_memory_body, line};
 
 use http::StatusCode;
 use size_values::{NoMemory, Seq, Text};
 use std::alloc::Global;
 
-/// A reply: its status code, its JSON body, the text of a Location header or none where it is empty, and whether
-/// the connection ends after it.
+/// A reply: its status code, its JSON body, the text of a Location header or none where it is empty, and whether the
+/// connection ends after it. `tag` is the entity tag of what is shown, with its quotes (RFC 9110, section 8.8.3), or
+/// empty: no ETag header.
 #[derive(Drop)]
 pub struct Printed {
     pub code: u16,
     pub body: Seq<u8>,
     pub location: Text,
+    pub tag: Text,
     pub last: bool,
 }
 
@@ -37,6 +39,7 @@ fn head_text(alloc: Global, printed: &Printed) -> Result<String, NoMemory>
     push_line(&mut text, "Content-Type: ", "application/json")?;
     push_length(alloc, &mut text, printed.body.len())?;
     push_location(&mut text, &printed.location)?;
+    push_tag(&mut text, &printed.tag)?;
     push_last(&mut text, printed.last)?;
     push_line(&mut text, "", "")?;
     Ok(text)
@@ -94,6 +97,15 @@ fn push_location(text: &mut String, location: &Text) -> Result<(), NoMemory>
     push_line(text, "Location: ", location.view())
 }
 
+fn push_tag(text: &mut String, tag: &Text) -> Result<(), NoMemory>
+    ensures { OnOk result (string_bytes text.new ≡ string_bytes text.old ++ tag_line tag.now) }
+{
+    if tag.is_empty() {
+        return Ok(());
+    }
+    push_line(text, "ETag: ", tag.view())
+}
+
 fn push_last(text: &mut String, last: bool) -> Result<(), NoMemory>
     ensures { OnOk result (string_bytes text.new ≡ string_bytes text.old ++ last_line last) }
 {
@@ -105,7 +117,8 @@ fn push_last(text: &mut String, last: bool) -> Result<(), NoMemory>
 
 /// The reply where there is no memory for another one. It takes none.
 pub fn no_memory_reply(last: bool) -> &'static [u8]
-    ensures { result.now ≡ reply_text (record { code = 500; body = no_memory_body; location = []; last = last }) }
+    ensures { result.now ≡ reply_text
+        (record { code = 500; body = no_memory_body; location = []; tag = []; last = last }) }
 {
     if last { NO_MEMORY_LAST } else { NO_MEMORY }
 }

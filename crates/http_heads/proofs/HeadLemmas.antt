@@ -1,6 +1,9 @@
--- What the fields of a head can be, and what its method is.
-use Rattle.std.proofs.Common.{ℕ, ◌<◌, ◌==◌, Bool, true, false, cond, IsTrue, List, [], ◌∷◌, length, Ok, Err, IfErr, codes, nat_le, subst, arith}
+-- What the fields of a head can be, what its method is, and what is taken of a value.
+use Rattle.std.proofs.Common.{◌≡◌, ℕ, suc, ◌<◌, ◌==◌, Bool, true, false, cond, IsTrue, List, [], ◌∷◌, length, Ok, Err, IfErr, codes, nat_lt, nat_le, refl, subst, arith}
 use Rattle.std.specs.Prelude.{IsUtf8}
+use Rattle.std.specs.List.{list_all}
+use Rattle.std.specs.Char.{is_ascii}
+use Rattle.std.specs.Str.{IsAscii}
 use Rattle.std.specs.Str.Parse.{digits_value}
 use Rattle.std.proofs.lemmas.Str.{IsUtf8-from_ascii}
 use Rattle.std.proofs.lemmas.Str.Ascii.{IsAscii-from_all}
@@ -10,7 +13,7 @@ use Rattle.httparse.specs.Grammar.{is_token_byte, IsToken}
 use Rattle.http_heads.specs.declared.request.HeadFault.{HeadFault}
 use Rattle.http_heads.specs.declared.request.HeadFault.TheVariants.{H1, H2, H3, H4, H5}
 use Rattle.http_heads.specs.Limits.{max_body}
-use Rattle.http_heads.specs.Fields.{values_of, is_length, length_in, length_of, framing, fields_of}
+use Rattle.http_heads.specs.Fields.{values_of, is_length, length_in, length_of, framing, fields_of, ascii_or_empty}
 use Rattle.http_heads.specs.Readings.{IsHeadWith, HasFault}
 
 -- the headers alone have no other fault
@@ -64,3 +67,14 @@ token_byte-ascii b h = grind (arith, nat_tests)
 -- a method is text
 pub IsUtf8-token : (bytes : List ℕ) → IsToken bytes → IsUtf8 bytes
 IsUtf8-token bytes h = IsUtf8-from_ascii bytes (IsAscii-from_all bytes (All-weaker _ _ token_byte-ascii bytes h.1))
+
+ascii_byte : {b : ℕ} → b < 128 → nat_lt b 128 ≡ true
+ascii_byte h = grind (arith, nat_tests)
+
+all_ascii : (value : List ℕ) → IsAscii value → list_all is_ascii value ≡ true
+all_ascii [] h = refl
+all_ascii (b ∷ value) h = rw (ascii_byte (h 0), all_ascii value (λ i. h (suc i))) refl
+
+-- a value of ASCII bytes is taken as it is
+pub taken-ascii : (value : List ℕ) → IsAscii value → value ≡ ascii_or_empty value
+taken-ascii value h = rw (all_ascii value h) refl

@@ -10,7 +10,7 @@ use Rattle.http_heads.specs.declared.request.Request.{Request}
 use Rattle.http_heads.specs.declared.request.HeadFault.{HeadFault}
 use Rattle.http_heads.specs.declared.request.HeadFault.TheVariants.{H1, H2, H3, H4, H5}
 use Rattle.http_heads.specs.Heads.{blank_len, head_len, after_blank, head_bytes}
-use Rattle.http_heads.specs.Fields.{fields_of, framing, is_last, has_origin, expects_leave}
+use Rattle.http_heads.specs.Fields.{fields_of, framing, is_last, has_origin, if_match_of, expects_leave}
 use Rattle.http_heads.specs.Upgrades.{upgrade_key}
 use Rattle.http_heads.specs.Messages.{IsHead, HasHead, IsMessage, IsBlank, IsCut, IsNoHead, IsTooLong, IsFramedBadly, IsMalformed, Ending, ended, cut, malformed, EndsAs, Begins, Splits}
 use Rattle.http_heads.specs.Readings.{IsHeadWith, HasFault}
@@ -43,6 +43,7 @@ IsMessage-append {bytes} {rest} {m} more h =
       expects_is = h.expects_is;
       upgrade_is = h.upgrade_is;
       origin_is = h.origin_is;
+      if_match_is = h.if_match_is;
       rest_is = ap (λ l. l ++ more) h.rest_is ∙ sym (drop-append-le (h.len + h.body) bytes more h.whole);
     }
 
@@ -135,6 +136,7 @@ message_unique {bytes} {rest} {other} {m} {n} h k =
     h.expects_is ∙ ap₂ expects_leave bodies heads.1 ∙ sym k.expects_is in
     let upgrade : m.upgrade ≡ n.upgrade = h.upgrade_is ∙ ap upgrade_key heads.1 ∙ sym k.upgrade_is in
     let origin : m.origin ≡ n.origin = h.origin_is ∙ ap has_origin heads.1 ∙ sym k.origin_is in
+    let if_match : m.if_match ≡ n.if_match = h.if_match_is ∙ ap if_match_of heads.1 ∙ sym k.if_match_is in
     let body : m.body ≡ n.body = h.body_is ∙ ap₂ (λ b l. take b (drop l bytes)) bodies heads.0 ∙ sym k.body_is in (
       λ i. record {
         method = method i;
@@ -144,6 +146,7 @@ message_unique {bytes} {rest} {other} {m} {n} h k =
         expects = expects i;
         upgrade = upgrade i;
         origin = origin i;
+        if_match = if_match i;
       },
       h.rest_is ∙ ap₂ (λ l b. drop (l + b) bytes) heads.0 bodies ∙ sym k.rest_is,
     )

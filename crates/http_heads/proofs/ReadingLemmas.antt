@@ -7,7 +7,7 @@ use Rattle.http_heads.specs.declared.request.HeadFault.{HeadFault}
 use Rattle.http_heads.specs.declared.request.HeadFault.TheVariants.{H1, H2}
 use Rattle.http_heads.specs.Limits.{max_head}
 use Rattle.http_heads.specs.Heads.{is_line_byte, head_end, head_len, head_bytes}
-use Rattle.http_heads.specs.Fields.{fields_of, framing, is_last, has_origin, expects_leave}
+use Rattle.http_heads.specs.Fields.{fields_of, framing, is_last, has_origin, if_match_of, expects_leave}
 use Rattle.http_heads.specs.Upgrades.{upgrade_key}
 use Rattle.http_heads.specs.Messages.{HasHead, IsMessage, IsBlank, IsCut, Ending, ended, cut, malformed, EndsAs, Splits}
 use Rattle.http_heads.proofs.SearchLemmas.{head_end-blank, head_end-begins}
@@ -55,6 +55,7 @@ next_framed bytes len head has (Ok body) framed = by_length (cases_lt (length by
             expects = expects_leave body head;
             upgrade = upgrade_key head;
             origin = has_origin head;
+            if_match = if_match_of head;
           },
           drop (len + body) bytes,
           record {
@@ -71,6 +72,7 @@ next_framed bytes len head has (Ok body) framed = by_length (cases_lt (length by
             expects_is = refl;
             upgrade_is = refl;
             origin_is = refl;
+            if_match_is = refl;
             rest_is = refl;
           },
         )

@@ -1,8 +1,9 @@
 -- What the headers of a request say of its body, and whether they end the connection.
 use Rattle.std.specs.Prelude.{ℕ, ◌==◌, Bool, not, ◌||◌, ◌&&◌, nat_lt, nat_le, if◌then◌else◌, List, [], ◌∷◌, length, map}
-use Rattle.std.specs.Prelude.{filter, Result, Ok, Err, codes}
+use Rattle.std.specs.Prelude.{filter, slice_get, Option, Result, Ok, Err, codes}
 use Rattle.std.specs.List.{list_all, list_any, slice_split}
-use Rattle.std.specs.Char.{is_ascii_digit}
+use Rattle.std.specs.Option.{option_map}
+use Rattle.std.specs.Char.{is_ascii, is_ascii_digit}
 use Rattle.std.specs.Str.{str_eq_ignore_ascii_case}
 use Rattle.std.specs.Str.Parse.{digits_value}
 use Rattle.httparse.specs.Grammar.{RequestHead, trim_ows}
@@ -58,6 +59,22 @@ some_named name fields = list_any (λ field. str_eq_ignore_ascii_case field.0 na
 -- a header is named `Origin`, as in what a web page has its browser send (RFC 6454, section 7)
 abbrev pub has_origin : RequestHead → Bool
 has_origin head = some_named (codes "origin") (fields_of head)
+
+-- the value of the first header of this name, if there is one
+abbrev pub first_value : List ℕ → List (List ℕ × List ℕ) → Option (List ℕ)
+first_value name fields = slice_get (values_of name fields) 0
+
+-- the value, or an empty one where it has a byte that is not ASCII
+abbrev pub ascii_or_empty : List ℕ → List ℕ
+ascii_or_empty value = if list_all is_ascii value then value else []
+
+-- the value of the first If-Match header (RFC 9110, section 13.1.1), if there is one; empty where it has a byte that is
+-- not ASCII
+abbrev pub if_match_in : List (List ℕ × List ℕ) → Option (List ℕ)
+if_match_in fields = option_map ascii_or_empty (first_value (codes "if-match") fields)
+
+abbrev pub if_match_of : RequestHead → Option (List ℕ)
+if_match_of head = if_match_in (fields_of head)
 
 -- the connection ends after this request: it is of HTTP/1.0, or a Connection header lists `close`
 abbrev pub is_last : RequestHead → Bool

@@ -7,7 +7,7 @@ use Rattle.http_heads.specs.declared.request.Request.{Request}
 use Rattle.http_heads.specs.declared.request.HeadFault.{HeadFault}
 use Rattle.http_heads.specs.declared.request.HeadFault.TheVariants.{H1, H2, H3, H4, H5}
 use Rattle.http_heads.specs.Heads.{blank_len, head_len, head_bytes}
-use Rattle.http_heads.specs.Fields.{fields_of, framing, is_last, has_origin, expects_leave, leave_due}
+use Rattle.http_heads.specs.Fields.{fields_of, framing, is_last, has_origin, if_match_of, expects_leave, leave_due}
 use Rattle.http_heads.specs.Upgrades.{upgrade_key}
 
 -- these bytes are a request head (RFC 9112) of at most 64 headers
@@ -35,6 +35,7 @@ pub record IsMessage (bytes : List ℕ) (message : Request) (rest : List ℕ) : 
   pub expects_is : message.expects ≡ expects_leave body head
   pub upgrade_is : message.upgrade ≡ upgrade_key head
   pub origin_is : message.origin ≡ has_origin head
+  pub if_match_is : message.if_match ≡ if_match_of head
   pub rest_is : rest ≡ drop (len + body) bytes
 
 -- The head of a message is whole here, and its client waits for leave before it sends the body, which is due where

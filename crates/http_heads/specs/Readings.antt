@@ -9,7 +9,7 @@ use Rattle.httparse.specs.declared.spans.RequestSpans.{RequestSpans}
 use Rattle.http_heads.specs.declared.head.Head.{Head}
 use Rattle.http_heads.specs.declared.request.HeadFault.{HeadFault}
 use Rattle.http_heads.specs.declared.request.HeadFault.TheVariants.{H1, H2, H3, H4, H5}
-use Rattle.http_heads.specs.Fields.{fields_of, framing, is_last, has_origin, expects_leave, leave_due}
+use Rattle.http_heads.specs.Fields.{fields_of, framing, is_last, has_origin, if_match_of, expects_leave, leave_due}
 use Rattle.http_heads.specs.Messages.{IsHead}
 use Rattle.http_heads.specs.Upgrades.{upgrade_key}
 
@@ -24,6 +24,7 @@ pub record Says (text : List ℕ) (said : Head) : Type 0 where
   pub expects_is : said.expects ≡ expects_leave said.body head
   pub upgrade_is : said.upgrade ≡ upgrade_key head
   pub origin_is : said.origin ≡ has_origin head
+  pub if_match_is : said.if_match ≡ if_match_of head
 
 -- the text is a head whose client waits for leave before it sends the body, which is due
 pub record Expects (refuses_origin : Bool) (text : List ℕ) : Type 0 where

@@ -4,7 +4,8 @@ ghost use Rattle.std.specs.Str.{str_eq_ignore_ascii_case};
 ghost use Rattle.httparse.specs.Grammar.{skip_ows, trim_ows};
 ghost use Rattle.httparse.specs.Spans.{IsWithin, IsHeaderWithin, span_bytes, header_bytes};
 ghost use Rattle.http_heads.specs.Limits.{max_body};
-ghost use Rattle.http_heads.specs.Fields.{values_of, length_in, framing, lists_word, some_lists, some_named, expects_in};
+ghost use Rattle.http_heads.specs.Fields.{values_of, first_value, length_in, framing, lists_word, some_lists};
+ghost use Rattle.http_heads.specs.Fields.{some_named, expects_in};
 
 use crate::request::{HeadFault, MAX_BODY};
 use httparse::spans::{HeaderSpan, Span};
@@ -49,6 +50,23 @@ pub(crate) fn single_value<'a>(
         }
     }
     Ok(found)
+}
+
+/// The value of the first header of this name, if there is one.
+pub(crate) fn first_value<'a>(
+    bytes: &'a [u8],
+    headers: &[HeaderSpan],
+    name: &[u8],
+) -> Option<&'a [u8]>
+    requires { All (IsHeaderWithin (length bytes.now)) headers.now }
+    ensures { option_map (λ v. v.now) result ≡ first_value name.now (map (header_bytes bytes.now) headers.now) }
+{
+    for header in headers {
+        if is_named(bytes, header.name, name) {
+            return Some(header.value.of(bytes));
+        }
+    }
+    None
 }
 
 /// Whether the bytes of the span are the name, in any ASCII case.

@@ -3,12 +3,12 @@ ghost use Rattle.httparse.specs.Grammar.{RequestHead};
 ghost use Rattle.httparse.specs.Spans.{IsWithin, IsHeaderWithin, span_bytes, header_bytes};
 ghost use Rattle.http_heads.specs.Heads.{after_blank};
 ghost use Rattle.http_heads.specs.Limits.{max_body, max_fields};
-ghost use Rattle.http_heads.specs.Fields.{leave_due};
+ghost use Rattle.http_heads.specs.Fields.{ascii_or_empty, if_match_in, leave_due};
 ghost use Rattle.http_heads.specs.Messages.{IsHead};
 ghost use Rattle.http_heads.specs.Readings.{Says, HasReason, AreParts, TellsExpects};
 ghost use Rattle.http_heads.specs.Upgrades.{key_in};
 
-use crate::fields::{expects_in, framing, some_lists, some_named};
+use crate::fields::{expects_in, first_value, framing, some_lists, some_named};
 use crate::request::{HeadFault, MAX_FIELDS};
 use crate::search::leading_line_bytes;
 use crate::upgrade::key_in;
@@ -21,7 +21,8 @@ use std::mem;
 
 /// What a head says: the method, the target, the length of the body, whether the connection ends after it, whether its
 /// client waits for leave before it sends the body, the key of the WebSocket handshake that it asks for, and whether a
-/// header is named `Origin`.
+/// header is named `Origin`. `if_match` is the value of the first If-Match header (RFC 9110, section 13.1.1), if there
+/// is one; empty where it has a byte that is not ASCII.
 #[derive(Drop)]
 pub struct Head {
     pub method: Text,
@@ -31,6 +32,7 @@ pub struct Head {
     pub expects: bool,
     pub upgrade: Option<Text>,
     pub origin: bool,
+    pub if_match: Option<Text>,
 }
 
 /// The place in which `read_head` notes where the headers are. It is made once for many heads, and what a head leaves
@@ -168,6 +170,7 @@ fn head_of(
     let method = text_in(alloc, &mut spare.method, str_of(spans.method.of(text)))?;
     let target = text_in(alloc, &mut spare.target, str_of(spans.path.of(text)))?;
     let upgrade = upgrade_of(alloc, text, headers, spans)?;
+    let if_match = if_match_in(alloc, text, headers)?;
     Ok(Head {
         method,
         target,
@@ -176,6 +179,7 @@ fn head_of(
         expects,
         upgrade,
         origin,
+        if_match,
     })
 }
 
@@ -195,6 +199,24 @@ fn upgrade_of(
         Some(key) => Ok(Some(Text::from_text(alloc, str_of(key))?)),
         None => Ok(None),
     }
+}
+
+/// The value of the first If-Match header, if there is one.
+fn if_match_in(alloc: Global, text: &[u8], headers: &[HeaderSpan]) -> Result<Option<Text>, NoMemory>
+    requires { All (IsHeaderWithin (length text.now)) headers.now }
+    ensures { IfOk result (λ found. found ≡ if_match_in (map (header_bytes text.now) headers.now)) }
+{
+    match first_value(text, headers, b"if-match") {
+        Some(value) => Ok(Some(Text::from_text(alloc, ascii_or_empty(value))?)),
+        None => Ok(None),
+    }
+}
+
+/// The value, or an empty one where it has a byte that is not ASCII.
+fn ascii_or_empty(value: &[u8]) -> &str
+    ensures { result.now ≡ ascii_or_empty value.now }
+{
+    if value.is_ascii() { str_of(value) } else { "" }
 }
 
 /// The bytes as a `str`.

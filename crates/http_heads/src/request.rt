@@ -24,7 +24,9 @@ pub fn limits_are_those_of_the_definitions()
 /// Connection header lists `close`. `expects` says that its client waits for leave before it sends the body: it
 /// has one, is of HTTP/1.1, and an Expect header lists `100-continue` (RFC 9110, section 10.1.1). `upgrade` is the
 /// key of the WebSocket handshake that it asks for, if it asks for one (RFC 6455, section 4.2.1). `origin` says that a
-/// header is named `Origin`, as in what a web page has its browser send (RFC 6454, section 7).
+/// header is named `Origin`, as in what a web page has its browser send (RFC 6454, section 7). `if_match` is the value
+/// of the first If-Match header (RFC 9110, section 13.1.1), if there is one; empty where it has a byte that is not
+/// ASCII.
 #[derive(Drop)]
 pub struct Request {
     pub method: Text,
@@ -34,6 +36,7 @@ pub struct Request {
     pub expects: bool,
     pub upgrade: Option<Text>,
     pub origin: bool,
+    pub if_match: Option<Text>,
 }
 
 /// What is wrong with the bytes in a request's place.

@@ -20,6 +20,7 @@ use Rattle.row_machine.specs.machine.Asked.{new_name_of, with_name, next_snapsho
 use Rattle.row_machine.specs.machine.Rows.{instance_named}
 use Rattle.row_machine.specs.machine.Refusals.{on_object, on_held}
 use Rattle.row_machine.specs.machine.NameRules.{project_missing, what_is_missing, name_broken, name_malformed, name_taken, name_held, is_there}
+use Rattle.row_machine.specs.machine.Expectations.{not_as_expected, object_at, version_passed}
 use Rattle.row_machine.specs.machine.Rules.{names_broken}
 use Rattle.row_machine.specs.machine.Rules.{standing_broken}
 use Rattle.row_machine.specs.machine.Plans.{plan_of}
@@ -100,13 +101,23 @@ refused : (s : State) (c : Command) (moment : ℕ) (r : Option Refusal) → brok
 refused s c moment None is some = cc
 refused s c moment (Some refusal) is some = (refusal, (is, ap (after_command s c moment well) is))
 
+-- a creation expects nothing of its object
+expects-nothing : (s : State) (c : Command) (of : Target) (body : Body) → c.what ≡ what.Create of body → not_as_expected s c ≡ None
+unfolding not_as_expected
+expects-nothing s c of body is = ap (λ w. option_and_then (λ tag. option_and_then (version_passed s c.project tag) (object_at w)) c.expects) is ∙ none c.expects where
+  none : (tag : Option (List ℕ)) → option_and_then (λ tag. option_and_then (version_passed s c.project tag) (object_at (what.Create of body))) tag ≡ None
+  none None = refl
+  none (Some tag) = refl
+
 -- the rules on names, where those before the name are not broken
 by-name : (s : State) (c : Command) (of : Target) (x : Refusal) → new_name_of s c.project c.what ≡ Some of → name_broken s c.project of ≡ Some x
-    → project_missing s c ≡ None → what_is_missing s c.project c.what ≡ None → names_broken s c ≡ Some x
+    → project_missing s c ≡ None → what_is_missing s c.project c.what ≡ None → not_as_expected s c ≡ None → names_broken s c ≡ Some x
 unfolding names_broken
-by-name s c of x anew is project objects =
-    ap (λ p. option_or p (option_or (what_is_missing s c.project c.what) (option_or (option_and_then (name_broken s c.project) (new_name_of s c.project c.what)) None))) project
-    ∙ ap (λ o. option_or o (option_or (option_and_then (name_broken s c.project) (new_name_of s c.project c.what)) None)) objects
+by-name s c of x anew is project objects expected =
+    let name = option_or (option_and_then (name_broken s c.project) (new_name_of s c.project c.what)) None in
+    ap (λ p. option_or p (option_or (what_is_missing s c.project c.what) (option_or (not_as_expected s c) name))) project
+    ∙ ap (λ o. option_or o (option_or (not_as_expected s c) name)) objects
+    ∙ ap (λ e. option_or e name) expected
     ∙ ap (λ t. option_or (option_and_then (name_broken s c.project) t) None) anew
     ∙ ap (λ n. option_or n None) is
 
@@ -121,9 +132,9 @@ broken-first s c moment x e = ap (λ n. option_or n (option_or (standing_broken 
 name-broken : (s : State) (c : Command) (of : Target) → new_name_of s c.project c.what ≡ Some of → is_some (name_broken s c.project of) ≡ true → is_some (names_broken s c) ≡ true
 unfolding names_broken
 name-broken s c of anew e =
-    over (project_missing s c) _ (over (what_is_missing s c.project c.what) _
+    over (project_missing s c) _ (over (what_is_missing s c.project c.what) _ (over (not_as_expected s c) _
     (front (option_and_then (name_broken s c.project) (new_name_of s c.project c.what)) None
-    (ap (λ t. is_some (option_and_then (name_broken s c.project) t)) anew ∙ e)))
+    (ap (λ t. is_some (option_and_then (name_broken s c.project) t)) anew ∙ e))))
 
 pub sent-again : SentAgain
 unfolding step
@@ -144,5 +155,5 @@ sent-again s c moment of body is named stands = record { refusal = answered.0; a
       → (answered.0.rule ≡ rule.N4) ⊎ (answered.0.rule ≡ rule.N5)
   its project objects good =
       let found = there-is (name_broken s c.project of) some in
-      let same : found.0 ≡ answered.0 = some-is (sym (broken-first s c moment found.0 (by-name s c of found.0 given found.1 project objects)) ∙ answered.1.0) in
+      let same : found.0 ≡ answered.0 = some-is (sym (broken-first s c moment found.0 (by-name s c of found.0 given found.1 project objects (expects-nothing s c of body is))) ∙ answered.1.0) in
       subst (λ (x : Refusal). (x.rule ≡ rule.N4) ⊎ (x.rule ≡ rule.N5)) same (its-rule s c.project of found.0 good found.1)

@@ -28,24 +28,24 @@ never_restores {cs} {X} (Some i) found task e = by (found i) e where
   by None e = never_nothing e
   by (Some r) e = never_starts e
 
-by : (s : State) (project : List ℕ) (w : What) (moment : ℕ) (cs : List RowChange) → IsAccepted s (command_of project w) moment (changes cs) → AtOnce s cs
+by : (s : State) (project : List ℕ) (expects : Option (List ℕ)) (w : What) (moment : ℕ) (cs : List RowChange) → IsAccepted s (command_of project expects w) moment (changes cs) → AtOnce s cs
 unfolding plan_of
-by s project (what.Create of body) moment cs h = creates s project of.kind of.pool of.instance of.name body moment cs h
-by s project (what.Put of body) moment cs h = puts s project of.kind of.pool of.instance of.name body moment cs h
-by s project (what.Patch of body) moment cs h = patches s project of.kind of.pool of.instance of.name body moment cs h
-by s project (what.Move of to) moment cs h = moves s project of.kind of.pool of.instance of.name to moment cs h
-by s project (what.Delete of) moment cs h = removes s project of.kind of.pool of.instance of.name moment cs h
-by s project (what.Act of action) moment cs h = never_acts (instance_named s.instances project of.name) _ h.plan
-by s project (what.Restore of snapshot) moment cs h =
+by s project expects (what.Create of body) moment cs h = creates s project of.kind of.pool of.instance of.name body moment cs h
+by s project expects (what.Put of body) moment cs h = puts s project of.kind of.pool of.instance of.name body moment cs h
+by s project expects (what.Patch of body) moment cs h = patches s project of.kind of.pool of.instance of.name body moment cs h
+by s project expects (what.Move of to) moment cs h = moves s project of.kind of.pool of.instance of.name to moment cs h
+by s project expects (what.Delete of) moment cs h = removes s project of.kind of.pool of.instance of.name moment cs h
+by s project expects (what.Act of action) moment cs h = never_acts (instance_named s.instances project of.name) _ h.plan
+by s project expects (what.Restore of snapshot) moment cs h =
     never_restores (instance_named s.instances project of.name) (λ i. snapshot_named s.snapshots project of.name snapshot) _ h.plan
-by s project what.Root moment cs h = never_nothing h.plan
-by s project what.Server moment cs h = never_nothing h.plan
-by s project (what.List of recursion) moment cs h = never_nothing h.plan
-by s project (what.Get of) moment cs h = never_nothing h.plan
-by s project (what.State of) moment cs h = never_nothing h.plan
-by s project (what.GetOp op) moment cs h = never_nothing h.plan
-by s project (what.Cancel op) moment cs h = never_nothing h.plan
-by s project (what.Wait op timeout) moment cs h = never_nothing h.plan
+by s project expects what.Root moment cs h = never_nothing h.plan
+by s project expects what.Server moment cs h = never_nothing h.plan
+by s project expects (what.List of recursion) moment cs h = never_nothing h.plan
+by s project expects (what.Get of) moment cs h = never_nothing h.plan
+by s project expects (what.State of) moment cs h = never_nothing h.plan
+by s project expects (what.GetOp op) moment cs h = never_nothing h.plan
+by s project expects (what.Cancel op) moment cs h = never_nothing h.plan
+by s project expects (what.Wait op timeout) moment cs h = never_nothing h.plan
 
 pub at_once : {s : State} {c : Command} {moment : ℕ} {cs : List RowChange} → IsAccepted s c moment (changes cs) → AtOnce s cs
-at_once {s} {c} {moment} {cs} h = by s c.project c.what moment cs h
+at_once {s} {c} {moment} {cs} h = by s c.project c.expects c.what moment cs h

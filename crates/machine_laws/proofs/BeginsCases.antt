@@ -38,8 +38,8 @@ unformed e = cc
 
 -- ---- by command
 
-creates : (s : State) (project : List ℕ) (k : ObjectKind) (pool instance name : List ℕ) (body : Body) (moment : ℕ) (task : Task)
-    → IsAccepted s (command_of project (what.Create (target k pool instance name) body)) moment (starts task) → Begins s task
+creates : {expects : Option (List ℕ)} (s : State) (project : List ℕ) (k : ObjectKind) (pool instance name : List ℕ) (body : Body) (moment : ℕ) (task : Task)
+    → IsAccepted s (command_of project expects (what.Create (target k pool instance name) body)) moment (starts task) → Begins s task
 unfolding plan_of
 creates s project kind.Project pool instance name body moment task h = never_changes h.plan
 creates s project kind.Profile pool instance name body moment task h = never_changes h.plan
@@ -50,8 +50,8 @@ creates s project kind.Instance pool instance name body moment task h = makes-in
 creates s project kind.Snapshot pool instance name body moment task h = makes-snapshot s project pool instance name body moment task h
 creates s project kind.Operation pool instance name body moment task h = nothing_begins h.plan
 
-puts : (s : State) (project : List ℕ) (k : ObjectKind) (pool instance name : List ℕ) (body : Body) (moment : ℕ) (task : Task)
-    → IsAccepted s (command_of project (what.Put (target k pool instance name) body)) moment (starts task) → Begins s task
+puts : {expects : Option (List ℕ)} (s : State) (project : List ℕ) (k : ObjectKind) (pool instance name : List ℕ) (body : Body) (moment : ℕ) (task : Task)
+    → IsAccepted s (command_of project expects (what.Put (target k pool instance name) body)) moment (starts task) → Begins s task
 unfolding plan_of
 puts s project kind.Project pool instance name body moment task h =
     at_once row.Project (plan_put s project (target kind.Project pool instance name) body) _ (λ r. refl) (project_named s.projects name) h.plan
@@ -68,8 +68,8 @@ puts s project kind.Snapshot pool instance name body moment task h =
     not_at_all row.Snapshot (plan_put s project (target kind.Snapshot pool instance name) body) (λ r. refl) (snapshot_named s.snapshots project instance name) h.plan
 puts s project kind.Operation pool instance name body moment task h = nothing_begins h.plan
 
-patches : (s : State) (project : List ℕ) (k : ObjectKind) (pool instance name : List ℕ) (body : Body) (moment : ℕ) (task : Task)
-    → IsAccepted s (command_of project (what.Patch (target k pool instance name) body)) moment (starts task) → Begins s task
+patches : {expects : Option (List ℕ)} (s : State) (project : List ℕ) (k : ObjectKind) (pool instance name : List ℕ) (body : Body) (moment : ℕ) (task : Task)
+    → IsAccepted s (command_of project expects (what.Patch (target k pool instance name) body)) moment (starts task) → Begins s task
 unfolding plan_of
 patches s project kind.Project pool instance name body moment task h = at_once row.Project (plan_patch body) _ (λ r. refl) (project_named s.projects name) h.plan
 patches s project kind.Profile pool instance name body moment task h =
@@ -83,8 +83,8 @@ patches s project kind.Instance pool instance name body moment task h = at_once 
 patches s project kind.Snapshot pool instance name body moment task h = not_at_all row.Snapshot (plan_patch body) (λ r. refl) (snapshot_named s.snapshots project instance name) h.plan
 patches s project kind.Operation pool instance name body moment task h = nothing_begins h.plan
 
-moves : (s : State) (project : List ℕ) (k : ObjectKind) (pool instance name to : List ℕ) (moment : ℕ) (task : Task)
-    → IsAccepted s (command_of project (what.Move (target k pool instance name) to)) moment (starts task) → Begins s task
+moves : {expects : Option (List ℕ)} (s : State) (project : List ℕ) (k : ObjectKind) (pool instance name to : List ℕ) (moment : ℕ) (task : Task)
+    → IsAccepted s (command_of project expects (what.Move (target k pool instance name) to)) moment (starts task) → Begins s task
 unfolding plan_of
 moves s project kind.Project pool instance name to moment task h =
     at_once row.Project (plan_move s project (target kind.Project pool instance name) to) _ (λ r. refl) (project_named s.projects name) h.plan
@@ -101,8 +101,8 @@ moves s project kind.Snapshot pool instance name to moment task h =
     not_at_all row.Snapshot (plan_move s project (target kind.Snapshot pool instance name) to) (λ r. refl) (snapshot_named s.snapshots project instance name) h.plan
 moves s project kind.Operation pool instance name to moment task h = nothing_begins h.plan
 
-removes : (s : State) (project : List ℕ) (k : ObjectKind) (pool instance name : List ℕ) (moment : ℕ) (task : Task)
-    → IsAccepted s (command_of project (what.Delete (target k pool instance name))) moment (starts task) → Begins s task
+removes : {expects : Option (List ℕ)} (s : State) (project : List ℕ) (k : ObjectKind) (pool instance name : List ℕ) (moment : ℕ) (task : Task)
+    → IsAccepted s (command_of project expects (what.Delete (target k pool instance name))) moment (starts task) → Begins s task
 unfolding plan_of
 removes s project kind.Project pool instance name moment task h =
     at_once row.Project (plan_delete s project (target kind.Project pool instance name)) _ (λ r. refl) (project_named s.projects name) h.plan
@@ -119,8 +119,8 @@ removes s project kind.Snapshot pool instance name moment task h = deletes-snaps
 removes s project kind.Operation pool instance name moment task h = nothing_begins h.plan
 
 -- only an instance has a change of state
-acts : (s : State) (project : List ℕ) (k : ObjectKind) (pool instance name : List ℕ) (action : Action) (moment : ℕ) (task : Task)
-    → IsAccepted s (command_of project (what.Act (target k pool instance name) action)) moment (starts task) → Begins s task
+acts : {expects : Option (List ℕ)} (s : State) (project : List ℕ) (k : ObjectKind) (pool instance name : List ℕ) (action : Action) (moment : ℕ) (task : Task)
+    → IsAccepted s (command_of project expects (what.Act (target k pool instance name) action)) moment (starts task) → Begins s task
 acts s project kind.Instance pool instance name action moment task h = acts-on s project pool instance name action moment task h
 acts s project kind.Project pool instance name action moment task h = unformed h.formed
 acts s project kind.Profile pool instance name action moment task h = unformed h.formed
@@ -130,8 +130,8 @@ acts s project kind.Volume pool instance name action moment task h = unformed h.
 acts s project kind.Snapshot pool instance name action moment task h = unformed h.formed
 acts s project kind.Operation pool instance name action moment task h = unformed h.formed
 
-restores : (s : State) (project : List ℕ) (k : ObjectKind) (pool instance name snapshot : List ℕ) (moment : ℕ) (task : Task)
-    → IsAccepted s (command_of project (what.Restore (target k pool instance name) snapshot)) moment (starts task) → Begins s task
+restores : {expects : Option (List ℕ)} (s : State) (project : List ℕ) (k : ObjectKind) (pool instance name snapshot : List ℕ) (moment : ℕ) (task : Task)
+    → IsAccepted s (command_of project expects (what.Restore (target k pool instance name) snapshot)) moment (starts task) → Begins s task
 restores s project kind.Instance pool instance name snapshot moment task h = restores-to s project pool instance name snapshot moment task h
 restores s project kind.Project pool instance name snapshot moment task h = unformed h.formed
 restores s project kind.Profile pool instance name snapshot moment task h = unformed h.formed
@@ -141,23 +141,23 @@ restores s project kind.Volume pool instance name snapshot moment task h = unfor
 restores s project kind.Snapshot pool instance name snapshot moment task h = unformed h.formed
 restores s project kind.Operation pool instance name snapshot moment task h = unformed h.formed
 
-by : (s : State) (project : List ℕ) (w : What) (moment : ℕ) (task : Task) → IsAccepted s (command_of project w) moment (starts task) → Begins s task
+by : (s : State) (project : List ℕ) (expects : Option (List ℕ)) (w : What) (moment : ℕ) (task : Task) → IsAccepted s (command_of project expects w) moment (starts task) → Begins s task
 unfolding plan_of
-by s project (what.Create of body) moment task h = creates s project of.kind of.pool of.instance of.name body moment task h
-by s project (what.Put of body) moment task h = puts s project of.kind of.pool of.instance of.name body moment task h
-by s project (what.Patch of body) moment task h = patches s project of.kind of.pool of.instance of.name body moment task h
-by s project (what.Move of to) moment task h = moves s project of.kind of.pool of.instance of.name to moment task h
-by s project (what.Delete of) moment task h = removes s project of.kind of.pool of.instance of.name moment task h
-by s project (what.Act of action) moment task h = acts s project of.kind of.pool of.instance of.name action moment task h
-by s project (what.Restore of snapshot) moment task h = restores s project of.kind of.pool of.instance of.name snapshot moment task h
-by s project what.Root moment task h = nothing_begins h.plan
-by s project what.Server moment task h = nothing_begins h.plan
-by s project (what.List of recursion) moment task h = nothing_begins h.plan
-by s project (what.Get of) moment task h = nothing_begins h.plan
-by s project (what.State of) moment task h = nothing_begins h.plan
-by s project (what.GetOp op) moment task h = nothing_begins h.plan
-by s project (what.Cancel op) moment task h = nothing_begins h.plan
-by s project (what.Wait op timeout) moment task h = nothing_begins h.plan
+by s project expects (what.Create of body) moment task h = creates s project of.kind of.pool of.instance of.name body moment task h
+by s project expects (what.Put of body) moment task h = puts s project of.kind of.pool of.instance of.name body moment task h
+by s project expects (what.Patch of body) moment task h = patches s project of.kind of.pool of.instance of.name body moment task h
+by s project expects (what.Move of to) moment task h = moves s project of.kind of.pool of.instance of.name to moment task h
+by s project expects (what.Delete of) moment task h = removes s project of.kind of.pool of.instance of.name moment task h
+by s project expects (what.Act of action) moment task h = acts s project of.kind of.pool of.instance of.name action moment task h
+by s project expects (what.Restore of snapshot) moment task h = restores s project of.kind of.pool of.instance of.name snapshot moment task h
+by s project expects what.Root moment task h = nothing_begins h.plan
+by s project expects what.Server moment task h = nothing_begins h.plan
+by s project expects (what.List of recursion) moment task h = nothing_begins h.plan
+by s project expects (what.Get of) moment task h = nothing_begins h.plan
+by s project expects (what.State of) moment task h = nothing_begins h.plan
+by s project expects (what.GetOp op) moment task h = nothing_begins h.plan
+by s project expects (what.Cancel op) moment task h = nothing_begins h.plan
+by s project expects (what.Wait op timeout) moment task h = nothing_begins h.plan
 
 pub begins : {s : State} {c : Command} {moment : ℕ} {task : Task} → IsAccepted s c moment (starts task) → Begins s task
-begins {s} {c} {moment} {task} h = by s c.project c.what moment task h
+begins {s} {c} {moment} {task} h = by s c.project c.expects c.what moment task h

@@ -24,6 +24,7 @@ use Rattle.row_machine.specs.machine.Task.{Task}
 use Rattle.row_machine.specs.machine.State.{State}
 use Rattle.row_machine.specs.opening.Records.{rows_of}
 use Rattle.row_machine.specs.machine.NameRules.{project_missing, what_is_missing, missing_unless}
+use Rattle.row_machine.specs.machine.Expectations.{not_as_expected}
 use Rattle.row_machine.specs.machine.Rules.{names_broken}
 use Rattle.row_machine.specs.machine.StandingRules.{instance_busy, wrong_state, object_protected, object_used, project_occupied, profile_held}
 use Rattle.row_machine.specs.machine.Rules.{standing_broken}
@@ -52,30 +53,32 @@ answers s o live running may =
 
 -- ---- no rule is broken
 
-names-unbroken : (s : State) (project : List ℕ) (o : Operation Task) → live_at s.operations o.number ≡ Some o
-    → names_broken s (command_of project (what.Cancel o.number)) ≡ None
-unfolding names_broken project_missing what_is_missing
-names-unbroken s project o live =
+names-unbroken : (s : State) (project : List ℕ) (expects : Option (List ℕ)) (o : Operation Task) → live_at s.operations o.number ≡ Some o
+    → names_broken s (command_of project expects (what.Cancel o.number)) ≡ None
+unfolding names_broken project_missing what_is_missing not_as_expected
+names-unbroken s project None o live =
+    ap (λ x. option_or (missing_unless (is_some x) kind.Operation (decimal o.number)) None) (live-kept s o.number o live)
+names-unbroken s project (Some tag) o live =
     ap (λ x. option_or (missing_unless (is_some x) kind.Operation (decimal o.number)) None) (live-kept s o.number o live)
 
-standing-unbroken : (s : State) (project : List ℕ) (n : ℕ) → standing_broken s (command_of project (what.Cancel n)) ≡ None
+standing-unbroken : (s : State) (project : List ℕ) (expects : Option (List ℕ)) (n : ℕ) → standing_broken s (command_of project expects (what.Cancel n)) ≡ None
 unfolding standing_broken instance_busy wrong_state object_protected object_used project_occupied profile_held
-standing-unbroken s project n = refl
+standing-unbroken s project expects n = refl
 
-plan-unbroken : (s : State) (project : List ℕ) (o : Operation Task) (moment : ℕ) → live_at s.operations o.number ≡ Some o → o.status ≡ status.Running
+plan-unbroken : (s : State) (project : List ℕ) (expects : Option (List ℕ)) (o : Operation Task) (moment : ℕ) → live_at s.operations o.number ≡ Some o → o.status ≡ status.Running
     → o.may_cancel ≡ true
-    → plan_broken s (command_of project (what.Cancel o.number)) (plan_of s (command_of project (what.Cancel o.number)) moment) moment ≡ None
+    → plan_broken s (command_of project expects (what.Cancel o.number)) (plan_of s (command_of project expects (what.Cancel o.number)) moment) moment ≡ None
 unfolding plan_of cancel_broken
-plan-unbroken s project o moment live running may = ap (λ r. option_and_then (cancel_refusal o.number) (result_err r)) (answers s o live running may)
+plan-unbroken s project expects o moment live running may = ap (λ r. option_and_then (cancel_refusal o.number) (result_err r)) (answers s o live running may)
 
-unbroken : (s : State) (project : List ℕ) (o : Operation Task) (moment : ℕ) → live_at s.operations o.number ≡ Some o → o.status ≡ status.Running
-    → o.may_cancel ≡ true → broken s (command_of project (what.Cancel o.number)) moment ≡ None
+unbroken : (s : State) (project : List ℕ) (expects : Option (List ℕ)) (o : Operation Task) (moment : ℕ) → live_at s.operations o.number ≡ Some o → o.status ≡ status.Running
+    → o.may_cancel ≡ true → broken s (command_of project expects (what.Cancel o.number)) moment ≡ None
 unfolding broken
-unbroken s project o moment live running may =
-    let c = command_of project (what.Cancel o.number) in
-    ap (λ x. option_or x (option_or (standing_broken s c) (option_or (plan_broken s c (plan_of s c moment) moment) None))) (names-unbroken s project o live)
-    ∙ ap (λ x. option_or x (option_or (plan_broken s c (plan_of s c moment) moment) None)) (standing-unbroken s project o.number)
-    ∙ ap (λ x. option_or x None) (plan-unbroken s project o moment live running may)
+unbroken s project expects o moment live running may =
+    let c = command_of project expects (what.Cancel o.number) in
+    ap (λ x. option_or x (option_or (standing_broken s c) (option_or (plan_broken s c (plan_of s c moment) moment) None))) (names-unbroken s project expects o live)
+    ∙ ap (λ x. option_or x (option_or (plan_broken s c (plan_of s c moment) moment) None)) (standing-unbroken s project expects o.number)
+    ∙ ap (λ x. option_or x None) (plan-unbroken s project expects o moment live running may)
 
 -- ---- the step
 
@@ -83,18 +86,18 @@ unbroken s project o moment live running may =
 abbrev pub turned : State → Operation Task → ℕ → State
 turned s o moment = with_operation_notice (moved o.number status.Cancelling moment s) o.number moment
 
-carried : (s : State) (project : List ℕ) (o : Operation Task) (moment : ℕ) → live_at s.operations o.number ≡ Some o → o.status ≡ status.Running → o.may_cancel ≡ true
-    → accepted s (command_of project (what.Cancel o.number)) moment ≡ and_then (answer.Reply reply.Empty) (turned s o moment)
+carried : (s : State) (project : List ℕ) (expects : Option (List ℕ)) (o : Operation Task) (moment : ℕ) → live_at s.operations o.number ≡ Some o → o.status ≡ status.Running → o.may_cancel ≡ true
+    → accepted s (command_of project expects (what.Cancel o.number)) moment ≡ and_then (answer.Reply reply.Empty) (turned s o moment)
 unfolding accepted plan_of
-carried s project o moment live running may =
+carried s project expects o moment live running may =
     ap (λ r. and_then (answer.Reply reply.Empty) (after_cancel s o.number moment r)) (answers s o live running may)
 
-stepped : (s : State) (project : List ℕ) (o : Operation Task) (moment : ℕ) → live_at s.operations o.number ≡ Some o → o.status ≡ status.Running → o.may_cancel ≡ true
-    → step s (event.Ask (command_of project (what.Cancel o.number)) moment) well ≡ Some (and_then (answer.Reply reply.Empty) (turned s o moment))
+stepped : (s : State) (project : List ℕ) (expects : Option (List ℕ)) (o : Operation Task) (moment : ℕ) → live_at s.operations o.number ≡ Some o → o.status ≡ status.Running → o.may_cancel ≡ true
+    → step s (event.Ask (command_of project expects (what.Cancel o.number)) moment) well ≡ Some (and_then (answer.Reply reply.Empty) (turned s o moment))
 unfolding step
-stepped s project o moment live running may =
-    ap (after_command s (command_of project (what.Cancel o.number)) moment well) (unbroken s project o moment live running may)
-    ∙ ap Some (carried s project o moment live running may)
+stepped s project expects o moment live running may =
+    ap (after_command s (command_of project expects (what.Cancel o.number)) moment well) (unbroken s project expects o moment live running may)
+    ∙ ap Some (carried s project expects o moment live running may)
 
 -- ---- the state after it
 
@@ -108,8 +111,8 @@ pub running-cancelled : RunningIsCancelled
 running-cancelled s c o moment h live running may what_is = (
   and_then (answer.Reply reply.Empty) (turned s o moment),
   (
-    subst (λ w. step s (event.Ask (command_of c.project w) moment) well ≡ Some (and_then (answer.Reply reply.Empty) (turned s o moment))) (sym what_is)
-        (stepped s c.project o moment live running may),
+    subst (λ w. step s (event.Ask (command_of c.project c.expects w) moment) well ≡ Some (and_then (answer.Reply reply.Empty) (turned s o moment))) (sym what_is)
+        (stepped s c.project c.expects o moment live running may),
     record { answer = refl; cancelling = found; undo = under_way.undo apart; undoable = some o.work.undo may_undo; rows = told-rows (moved o.number status.Cancelling moment s) (operation_notice (moved o.number status.Cancelling moment s) o.number moment) },
   ),
 ) where

@@ -26,8 +26,8 @@ use Rattle.machine_laws.proofs.Judged.{groups}
 use Rattle.machine_laws.proofs.Told.{AreNamesRight, IsWayFree, names-right, way-free, empty-is}
 
 -- the command of a request in a project
-abbrev pub command_of : List ℕ → What → Command
-command_of project w = record { project = project; what = w }
+abbrev pub command_of : List ℕ → Option (List ℕ) → What → Command
+command_of project expects w = record { project = project; what = w; expects = expects }
 
 -- an object, by its parts
 abbrev pub target : ObjectKind → List ℕ → List ℕ → List ℕ → Target

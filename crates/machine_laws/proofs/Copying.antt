@@ -34,14 +34,14 @@ use Rattle.machine_laws.proofs.Told.{empty-is, name-new, new-plain, new-in_pool,
 use Rattle.machine_laws.proofs.Entering.{plain-target, snapshot-parts, status-allows}
 
 -- an accepted creation
-abbrev Starts : State → List ℕ → ObjectKind → List ℕ → List ℕ → List ℕ → Body → ℕ → Task → Type 0
-Starts s project k pool instance name body moment task =
-    IsAccepted s (command_of project (what.Create (target k pool instance name) body)) moment (starts task)
+abbrev Starts : Option (List ℕ) → State → List ℕ → ObjectKind → List ℕ → List ℕ → List ℕ → Body → ℕ → Task → Type 0
+Starts expects s project k pool instance name body moment task =
+    IsAccepted s (command_of project expects (what.Create (target k pool instance name) body)) moment (starts task)
 
 -- ---- instances
 
-pub makes-instance : (s : State) (project pool instance name : List ℕ) (body : Body) (moment : ℕ) (task : Task)
-    → Starts s project kind.Instance pool instance name body moment task → Begins s task
+pub makes-instance : {expects : Option (List ℕ)} (s : State) (project pool instance name : List ℕ) (body : Body) (moment : ℕ) (task : Task)
+    → Starts expects s project kind.Instance pool instance name body moment task → Begins s task
 unfolding plan_of home_of what_is_missing instance_busy
 makes-instance s project pool instance name body moment task h = by body.origin refl h.plan where
   of : Target
@@ -57,7 +57,7 @@ makes-instance s project pool instance name body moment task h = by body.origin 
   profiles = creation-profiles kind.Instance body forms.1
 
   there : is_some (project_named s.projects project) ≡ true
-  there = project-there s (command_of project (what.Create of body)) of refl refl (accepted-names h).project
+  there = project-there s _ of refl refl (accepted-names h).project
 
   new : IsNew s project (instance_target name)
   new = new-plain parts.0 parts.1 (name-new s project of (accepted-names h).name)
@@ -133,8 +133,8 @@ with-name s project pool instance name = at (length name == 0) (instance_named s
   at true (Some i) = refl
   at false o = refl
 
-pub makes-snapshot : (s : State) (project pool instance name : List ℕ) (body : Body) (moment : ℕ) (task : Task)
-    → Starts s project kind.Snapshot pool instance name body moment task → Begins s task
+pub makes-snapshot : {expects : Option (List ℕ)} (s : State) (project pool instance name : List ℕ) (body : Body) (moment : ℕ) (task : Task)
+    → Starts expects s project kind.Snapshot pool instance name body moment task → Begins s task
 unfolding plan_of home_of instance_busy
 makes-snapshot s project pool instance name body moment task h = by (instance_named s.instances project instance) refl h.plan where
   of : Target
@@ -149,7 +149,7 @@ makes-snapshot s project pool instance name body moment task h = by (instance_na
   by (Some i) is e =
       let named = instance-found s.instances project instance i is in
       let names = accepted-names h in
-      let there = project-there s (command_of project (what.Create of body)) of refl refl names.project in
+      let there = project-there s _ of refl refl names.project in
       let idle = idle-found s project instance i is there (not_mapped _ _ (accepted-way h).idle) in
       let empty = empty-is pool (both_true (is_empty pool) (is_creation kind.Snapshot body) h.formed).0 in
       let exact = with-name s project pool instance name in
@@ -164,8 +164,8 @@ makes-snapshot s project pool instance name body moment task h = by (instance_na
 
 -- ---- copies of volumes
 
-pub copies-volume : (s : State) (project pool instance name : List ℕ) (body : Body) (moment : ℕ) (task : Task)
-    → Starts s project kind.Volume pool instance name body moment task → Begins s task
+pub copies-volume : {expects : Option (List ℕ)} (s : State) (project pool instance name : List ℕ) (body : Body) (moment : ℕ) (task : Task)
+    → Starts expects s project kind.Volume pool instance name body moment task → Begins s task
 unfolding plan_of what_is_missing
 copies-volume s project pool instance name body moment task h = by body.origin refl h.plan where
   of : Target
@@ -180,7 +180,7 @@ copies-volume s project pool instance name body moment task h = by body.origin r
   copied from snapshot from_pool origin_is (Some v) is e =
       let named = volume-found s.volumes home from_pool from v is in
       let names = accepted-names h in
-      let there = project-there s (command_of project (what.Create of body)) of refl refl names.project in
+      let there = project-there s _ of refl refl names.project in
       let missing = none_both (parent_missing s project of) _ names.objects in
       let pool_there : is_some (pool_named s.pools pool) ≡ true = told_unless _ _ missing.0 in
       let source = none_both (source_missing s project of body.origin) None missing.1 in

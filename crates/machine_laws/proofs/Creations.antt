@@ -31,49 +31,49 @@ use Rattle.machine_laws.proofs.Commands.{command_of, target, changes-are, never_
 use Rattle.machine_laws.proofs.Told.{AreNamesRight, names-right, project-there, name-new, new-plain, new-in_pool, profile-home, network-home, volume-home, empty-is}
 
 -- an accepted creation
-abbrev IsMade : State → List ℕ → ObjectKind → List ℕ → List ℕ → List ℕ → Body → ℕ → List RowChange → Type 0
-IsMade s project k pool instance name body moment cs =
-    IsAccepted s (command_of project (what.Create (target k pool instance name) body)) moment (changes cs)
+abbrev IsMade : Option (List ℕ) → State → List ℕ → ObjectKind → List ℕ → List ℕ → List ℕ → Body → ℕ → List RowChange → Type 0
+IsMade expects s project k pool instance name body moment cs =
+    IsAccepted s (command_of project expects (what.Create (target k pool instance name) body)) moment (changes cs)
 
 -- a volume's instance part is empty, and the parts of others than volumes and snapshots too
-made_names : {s : State} {project : List ℕ} {k : ObjectKind} {pool instance name : List ℕ} {body : Body} {moment : ℕ} {cs : List RowChange}
-    → IsMade s project k pool instance name body moment cs → AreNamesRight s (command_of project (what.Create (target k pool instance name) body))
-made_names {s} {project} {k} {pool} {instance} {name} {body} h = names-right s (command_of project (what.Create (target k pool instance name) body)) (judged h).names
+made_names : {s : State} {project : List ℕ} {expects : Option (List ℕ)} {k : ObjectKind} {pool instance name : List ℕ} {body : Body} {moment : ℕ} {cs : List RowChange}
+    → IsMade expects s project k pool instance name body moment cs → AreNamesRight s (command_of project expects (what.Create (target k pool instance name) body))
+made_names {s} {project} {expects} {k} {pool} {instance} {name} {body} h = names-right s (command_of project expects (what.Create (target k pool instance name) body)) (judged h).names
 
-makes-project : (s : State) (project pool instance name : List ℕ) (body : Body) (moment : ℕ) (cs : List RowChange)
-    → IsMade s project kind.Project pool instance name body moment cs → AtOnce s cs
+makes-project : {expects : Option (List ℕ)} (s : State) (project pool instance name : List ℕ) (body : Body) (moment : ℕ) (cs : List RowChange)
+    → IsMade expects s project kind.Project pool instance name body moment cs → AtOnce s cs
 unfolding plan_of
 makes-project s project pool instance name body moment cs h =
     let is : project_creation (made_project name body) ≡ cs = changes-are h.plan in
     let new = name-new s project (target kind.Project pool instance name) (made_names h).name in
     subst (AtOnce s) is (makes_project (made_project name body) new.good (not-there _ new.free))
 
-makes-profile : (s : State) (project pool instance name : List ℕ) (body : Body) (moment : ℕ) (cs : List RowChange)
-    → IsMade s project kind.Profile pool instance name body moment cs → AtOnce s cs
+makes-profile : {expects : Option (List ℕ)} (s : State) (project pool instance name : List ℕ) (body : Body) (moment : ℕ) (cs : List RowChange)
+    → IsMade expects s project kind.Profile pool instance name body moment cs → AtOnce s cs
 unfolding plan_of
 makes-profile s project pool instance name body moment cs h =
     let r = made_profile (home_of s.projects project kind.Profile) name body in
     let is : put_all (row.Profile r ∷ []) ≡ cs = changes-are h.plan in
     let of = target kind.Profile pool instance name in
     let names = made_names h in
-    let there = project-there s (command_of project (what.Create of body)) of refl refl names.project in
+    let there = project-there s _ of refl refl names.project in
     let empty = no-parts pool instance (both_true (is_empty pool && is_empty instance) (is_creation kind.Profile body) h.formed).0 in
     subst (AtOnce s) is (makes_profile r (profile-home s project h.whole.defaults there) (new-plain empty.0 empty.1 (name-new s project of names.name)))
 
-makes-network : (s : State) (project pool instance name : List ℕ) (body : Body) (moment : ℕ) (cs : List RowChange)
-    → IsMade s project kind.Network pool instance name body moment cs → AtOnce s cs
+makes-network : {expects : Option (List ℕ)} (s : State) (project pool instance name : List ℕ) (body : Body) (moment : ℕ) (cs : List RowChange)
+    → IsMade expects s project kind.Network pool instance name body moment cs → AtOnce s cs
 unfolding plan_of
 makes-network s project pool instance name body moment cs h =
     let r = made_network (home_of s.projects project kind.Network) name body in
     let is : put_all (row.Network r ∷ []) ≡ cs = changes-are h.plan in
     let of = target kind.Network pool instance name in
     let names = made_names h in
-    let there = project-there s (command_of project (what.Create of body)) of refl refl names.project in
+    let there = project-there s _ of refl refl names.project in
     let empty = no-parts pool instance (both_true (is_empty pool && is_empty instance) (is_creation kind.Network body) h.formed).0 in
     subst (AtOnce s) is (makes_network r (network-home s project h.whole.defaults there) (new-plain empty.0 empty.1 (name-new s project of names.name)))
 
-makes-pool : (s : State) (project pool instance name : List ℕ) (body : Body) (moment : ℕ) (cs : List RowChange)
-    → IsMade s project kind.Pool pool instance name body moment cs → AtOnce s cs
+makes-pool : {expects : Option (List ℕ)} (s : State) (project pool instance name : List ℕ) (body : Body) (moment : ℕ) (cs : List RowChange)
+    → IsMade expects s project kind.Pool pool instance name body moment cs → AtOnce s cs
 unfolding plan_of
 makes-pool s project pool instance name body moment cs h =
     let r = made_pool name body in
@@ -83,8 +83,8 @@ makes-pool s project pool instance name body moment cs h =
     let empty = no-parts pool instance (both_true (is_empty pool && is_empty instance) (is_creation kind.Pool body) h.formed).0 in
     subst (AtOnce s) is (makes_pool (home_of s.projects project kind.Pool) r (new-plain empty.0 empty.1 (name-new s project of names.name)))
 
-makes-volume : (s : State) (project pool instance name : List ℕ) (body : Body) (moment : ℕ) (cs : List RowChange)
-    → IsMade s project kind.Volume pool instance name body moment cs → AtOnce s cs
+makes-volume : {expects : Option (List ℕ)} (s : State) (project pool instance name : List ℕ) (body : Body) (moment : ℕ) (cs : List RowChange)
+    → IsMade expects s project kind.Volume pool instance name body moment cs → AtOnce s cs
 unfolding plan_of what_is_missing
 makes-volume s project pool instance name body moment cs h = by body.origin h.plan where
   of : Target
@@ -99,7 +99,7 @@ makes-volume s project pool instance name body moment cs h = by body.origin h.pl
   at_once : put_all (row.Volume r ∷ []) ≡ cs → AtOnce s cs
   at_once is =
       let names = made_names h in
-      let there = project-there s (command_of project (what.Create of body)) of refl refl names.project in
+      let there = project-there s _ of refl refl names.project in
       let pool_there : is_some (pool_named s.pools pool) ≡ true = told_unless _ _ (none_both (parent_missing s project of) _ names.objects).0 in
       let empty = empty-is instance (both_true (is_empty instance) (is_creation kind.Volume body) h.formed).0 in
       subst (AtOnce s) is (makes_volume r (volume-home s project h.whole.defaults there) pool_there (new-in_pool empty (name-new s project of names.name)) h.early)
@@ -133,8 +133,8 @@ never-snapshot : {cs : List RowChange} {X : Type 0} (i : Option Instance) (task 
 never-snapshot None task e = never_nothing e
 never-snapshot (Some i) task e = never_starts e
 
-pub creates : (s : State) (project : List ℕ) (k : ObjectKind) (pool instance name : List ℕ) (body : Body) (moment : ℕ) (cs : List RowChange)
-    → IsMade s project k pool instance name body moment cs → AtOnce s cs
+pub creates : {expects : Option (List ℕ)} (s : State) (project : List ℕ) (k : ObjectKind) (pool instance name : List ℕ) (body : Body) (moment : ℕ) (cs : List RowChange)
+    → IsMade expects s project k pool instance name body moment cs → AtOnce s cs
 unfolding plan_of
 creates s project kind.Project pool instance name body moment cs h = makes-project s project pool instance name body moment cs h
 creates s project kind.Profile pool instance name body moment cs h = makes-profile s project pool instance name body moment cs h

@@ -40,10 +40,10 @@ allows : (does : Deed) (name : List ℕ) (o : Option Power) → option_and_then 
 allows does name None e = tt
 allows does name (Some power) e = told_unless _ _ e
 
-pub status-allows : {s : State} {project : List ℕ} {w : What} (does : Deed) (name : List ℕ) (i : Instance) → IsWayFree s (command_of project w)
+pub status-allows : {s : State} {project : List ℕ} {expects : Option (List ℕ)} {w : What} (does : Deed) (name : List ℕ) (i : Instance) → IsWayFree s (command_of project expects w)
     → deed_asked w ≡ Some (does, name) → instance_named s.instances project name ≡ Some i → Allows s does i
 unfolding wrong_state
-status-allows {s} {project} {w} does name i way is found =
+status-allows {s} {project} {expects} {w} does name i way is found =
     let named = instance-found s.instances project name i found in
     let judges : (o : Option (Deed × List ℕ)) → Option _ = λ o. option_and_then (λ (a : Deed × List ℕ). option_and_then (in_wrong_state a.0 a.1) (power_of s project a.1)) o in
     let allowed = allows does name (power_of s project name) (ap judges (sym is) ∙ way.state) in
@@ -63,8 +63,8 @@ snapshot-parts {pool} {instance} {name} {other_instance} {other} p i n =
 
 -- ---- PUT
 
-pub updates-instance : (s : State) (project pool instance name : List ℕ) (body : Body) (moment : ℕ) (task : Task)
-    → IsAccepted s (command_of project (what.Put (target kind.Instance pool instance name) body)) moment (starts task) → Begins s task
+pub updates-instance : {expects : Option (List ℕ)} (s : State) (project pool instance name : List ℕ) (body : Body) (moment : ℕ) (task : Task)
+    → IsAccepted s (command_of project expects (what.Put (target kind.Instance pool instance name) body)) moment (starts task) → Begins s task
 unfolding plan_of
 updates-instance s project pool instance name body moment task h = by (instance_named s.instances project name) refl h.plan where
   of : Target
@@ -92,8 +92,8 @@ updates-instance s project pool instance name body moment task h = by (instance_
 
 -- ---- renames
 
-pub renames-instance : (s : State) (project pool instance name to : List ℕ) (moment : ℕ) (task : Task)
-    → IsAccepted s (command_of project (what.Move (target kind.Instance pool instance name) to)) moment (starts task) → Begins s task
+pub renames-instance : {expects : Option (List ℕ)} (s : State) (project pool instance name to : List ℕ) (moment : ℕ) (task : Task)
+    → IsAccepted s (command_of project expects (what.Move (target kind.Instance pool instance name) to)) moment (starts task) → Begins s task
 unfolding plan_of home_of
 renames-instance s project pool instance name to moment task h = by (instance_named s.instances project name) refl h.plan where
   of : Target
@@ -114,8 +114,8 @@ renames-instance s project pool instance name to moment task h = by (instance_na
 
 -- ---- deletions
 
-pub deletes-instance : (s : State) (project pool instance name : List ℕ) (moment : ℕ) (task : Task)
-    → IsAccepted s (command_of project (what.Delete (target kind.Instance pool instance name))) moment (starts task) → Begins s task
+pub deletes-instance : {expects : Option (List ℕ)} (s : State) (project pool instance name : List ℕ) (moment : ℕ) (task : Task)
+    → IsAccepted s (command_of project expects (what.Delete (target kind.Instance pool instance name))) moment (starts task) → Begins s task
 unfolding plan_of
 deletes-instance s project pool instance name moment task h = by (instance_named s.instances project name) refl h.plan where
   of : Target
@@ -132,8 +132,8 @@ deletes-instance s project pool instance name moment task h = by (instance_named
       (ap (λ p. deletion_task p (instance_target i.name)) named.0 ∙ ap (deletion_task project) (plain-target kind.Instance empty.0 empty.1 named.1) ∙ starts-are e)
       (deletes i idle (status-allows deed.Delete name i (accepted-way h) refl is))
 
-pub deletes-snapshot : (s : State) (project pool instance name : List ℕ) (moment : ℕ) (task : Task)
-    → IsAccepted s (command_of project (what.Delete (target kind.Snapshot pool instance name))) moment (starts task) → Begins s task
+pub deletes-snapshot : {expects : Option (List ℕ)} (s : State) (project pool instance name : List ℕ) (moment : ℕ) (task : Task)
+    → IsAccepted s (command_of project expects (what.Delete (target kind.Snapshot pool instance name))) moment (starts task) → Begins s task
 unfolding plan_of
 deletes-snapshot s project pool instance name moment task h = by (snapshot_named s.snapshots project instance name) refl h.plan where
   of : Target
@@ -159,8 +159,8 @@ deletes-snapshot s project pool instance name moment task h = by (snapshot_named
 -- ---- changes of state, and restores
 
 -- both speak of an instance by its name
-pub acts-on : (s : State) (project pool instance name : List ℕ) (action : Action) (moment : ℕ) (task : Task)
-    → IsAccepted s (command_of project (what.Act (target kind.Instance pool instance name) action)) moment (starts task) → Begins s task
+pub acts-on : {expects : Option (List ℕ)} (s : State) (project pool instance name : List ℕ) (action : Action) (moment : ℕ) (task : Task)
+    → IsAccepted s (command_of project expects (what.Act (target kind.Instance pool instance name) action)) moment (starts task) → Begins s task
 unfolding plan_of instance_busy
 acts-on s project pool instance name action moment task h = by (instance_named s.instances project name) refl h.plan where
   of : Target
@@ -170,15 +170,15 @@ acts-on s project pool instance name action moment task h = by (instance_named s
   by None is e = nothing_begins e
   by (Some i) is e =
       let named = instance-found s.instances project name i is in
-      let there = project-there s (command_of project (what.Act of action)) of refl refl (accepted-names h).project in
+      let there = project-there s _ of refl refl (accepted-names h).project in
       let idle = idle-found s project name i is there (not_mapped _ _ (accepted-way h).idle) in
       let empty = no-parts pool instance h.formed in
       subst (Begins s)
       (ap (λ p. act_task s p (instance_target i.name) action i) named.0 ∙ ap (λ t. act_task s project t action i) (plain-target kind.Instance empty.0 empty.1 named.1) ∙ starts-are e)
       (acts action i idle (status-allows (deed.Act action false) name i (accepted-way h) refl is))
 
-pub restores-to : (s : State) (project pool instance name snapshot : List ℕ) (moment : ℕ) (task : Task)
-    → IsAccepted s (command_of project (what.Restore (target kind.Instance pool instance name) snapshot)) moment (starts task) → Begins s task
+pub restores-to : {expects : Option (List ℕ)} (s : State) (project pool instance name snapshot : List ℕ) (moment : ℕ) (task : Task)
+    → IsAccepted s (command_of project expects (what.Restore (target kind.Instance pool instance name) snapshot)) moment (starts task) → Begins s task
 unfolding plan_of instance_busy
 restores-to s project pool instance name snapshot moment task h = by (instance_named s.instances project name) refl h.plan where
   of : Target
@@ -190,7 +190,7 @@ restores-to s project pool instance name snapshot moment task h = by (instance_n
   and_row i is (Some r) found e =
       let named = instance-found s.instances project name i is in
       let row_named = snapshot-found s.snapshots project name snapshot r found in
-      let there = project-there s (command_of project (what.Restore of snapshot)) of refl refl (accepted-names h).project in
+      let there = project-there s _ of refl refl (accepted-names h).project in
       let idle = idle-found s project name i is there (not_mapped _ _ (accepted-way h).idle) in
       let empty = no-parts pool instance h.formed in
       subst (Begins s)

@@ -28,11 +28,11 @@ use Rattle.machine_laws.proofs.Told.{and_false, and_first, apart, empty-is, name
 use Rattle.machine_laws.proofs.Speaking.{about-move, about-delete, its-project, it-is_unprotected, it-is_empty, it-is_unheld, rename-unused, deletion-unused}
 
 -- an accepted rename, and an accepted deletion
-abbrev Moved : State → List ℕ → ObjectKind → List ℕ → List ℕ → List ℕ → List ℕ → ℕ → List RowChange → Type 0
-Moved s project k pool instance name to moment cs = IsAccepted s (command_of project (what.Move (target k pool instance name) to)) moment (changes cs)
+abbrev Moved : Option (List ℕ) → State → List ℕ → ObjectKind → List ℕ → List ℕ → List ℕ → List ℕ → ℕ → List RowChange → Type 0
+Moved expects s project k pool instance name to moment cs = IsAccepted s (command_of project expects (what.Move (target k pool instance name) to)) moment (changes cs)
 
-abbrev Removed : State → List ℕ → ObjectKind → List ℕ → List ℕ → List ℕ → ℕ → List RowChange → Type 0
-Removed s project k pool instance name moment cs = IsAccepted s (command_of project (what.Delete (target k pool instance name))) moment (changes cs)
+abbrev Removed : Option (List ℕ) → State → List ℕ → ObjectKind → List ℕ → List ℕ → List ℕ → ℕ → List RowChange → Type 0
+Removed expects s project k pool instance name moment cs = IsAccepted s (command_of project expects (what.Delete (target k pool instance name))) moment (changes cs)
 
 -- no user under these names is none under the same names
 user-same : (s : State) (k : ObjectKind) {home other pool pool_too instance instance_too name name_too : List ℕ} → other ≡ home → pool_too ≡ pool
@@ -56,8 +56,8 @@ leaves false b e = cc
 
 -- ---- renames
 
-pub moves : (s : State) (project : List ℕ) (k : ObjectKind) (pool instance name to : List ℕ) (moment : ℕ) (cs : List RowChange)
-    → Moved s project k pool instance name to moment cs → AtOnce s cs
+pub moves : {expects : Option (List ℕ)} (s : State) (project : List ℕ) (k : ObjectKind) (pool instance name to : List ℕ) (moment : ℕ) (cs : List RowChange)
+    → Moved expects s project k pool instance name to moment cs → AtOnce s cs
 unfolding plan_of
 moves s project kind.Project pool instance name to moment cs h = by (project_named s.projects name) refl h.plan where
   by : (o : Option Project) → project_named s.projects name ≡ o
@@ -144,8 +144,8 @@ moves s project kind.Operation pool instance name to moment cs h = never_nothing
 
 -- ---- deletions
 
-pub removes : (s : State) (project : List ℕ) (k : ObjectKind) (pool instance name : List ℕ) (moment : ℕ) (cs : List RowChange)
-    → Removed s project k pool instance name moment cs → AtOnce s cs
+pub removes : {expects : Option (List ℕ)} (s : State) (project : List ℕ) (k : ObjectKind) (pool instance name : List ℕ) (moment : ℕ) (cs : List RowChange)
+    → Removed expects s project k pool instance name moment cs → AtOnce s cs
 unfolding plan_of
 removes s project kind.Project pool instance name moment cs h = by (project_named s.projects name) refl h.plan where
   by : (o : Option Project) → project_named s.projects name ≡ o

@@ -36,11 +36,11 @@ use Rattle.machine_laws.proofs.Speaking.{IsAbout, about-put, about-patch, its-pr
 -- ---- of each kind, for both requests
 
 -- an accepted command about an object
-abbrev Accepts : State → List ℕ → What → ℕ → List RowChange → Type 0
-Accepts s project w moment cs = IsAccepted s (command_of project w) moment (changes cs)
+abbrev Accepts : Option (List ℕ) → State → List ℕ → What → ℕ → List RowChange → Type 0
+Accepts expects s project w moment cs = IsAccepted s (command_of project expects w) moment (changes cs)
 
-project-changed : (s : State) (project : List ℕ) (w : What) (pool instance name : List ℕ) (moment : ℕ) (cs : List RowChange) (old r : Project)
-    → Accepts s project w moment cs → IsAbout w (target kind.Project pool instance name) → project_named s.projects name ≡ Some old
+project-changed : {expects : Option (List ℕ)} (s : State) (project : List ℕ) (w : What) (pool instance name : List ℕ) (moment : ℕ) (cs : List RowChange) (old r : Project)
+    → Accepts expects s project w moment cs → IsAbout w (target kind.Project pool instance name) → project_named s.projects name ≡ Some old
     → r.name ≡ old.name → renames_or_deletes w ≡ false → asks_for_features s w ≡ changes_features old r → AtOnce s (project_change old r)
 project-changed s project w pool instance name moment cs old r h about is same parting asks =
     changes_project old r (project-itself s.projects name old is) same features where
@@ -61,8 +61,8 @@ project-changed s project w pool instance name moment cs old r h about is same p
             (apart name default_name (and_first (bytes_eq name default_name) (renames_or_deletes w || asks_for_features s w) (it-is_unprotected about (accepted-way h)) (wants e))),
       )
 
-profile-changed : (s : State) (project : List ℕ) (w : What) (pool instance name : List ℕ) (moment : ℕ) (cs : List RowChange) (old r : Profile)
-    → Accepts s project w moment cs → IsAbout w (target kind.Profile pool instance name)
+profile-changed : {expects : Option (List ℕ)} (s : State) (project : List ℕ) (w : What) (pool instance name : List ℕ) (moment : ℕ) (cs : List RowChange) (old r : Profile)
+    → Accepts expects s project w moment cs → IsAbout w (target kind.Profile pool instance name)
     → profile_named s.profiles (home_of s.projects project kind.Profile) name ≡ Some old
     → r.project ≡ old.project → r.name ≡ old.name → AtOnce s (put_all (row.Profile r ∷ []))
 profile-changed s project w pool instance name moment cs old r h about is same_project same_name =
@@ -73,8 +73,8 @@ profile-changed s project w pool instance name moment cs old r h about is same_p
     (profile-itself s.profiles home name old is) same_project same_name
     (ap (λ p. holder_of s p old.name) named.0 ∙ ap (holder_of s home) named.1 ∙ it-is_unheld about (accepted-way h))
 
-network-changed : (s : State) (project : List ℕ) (w : What) (pool instance name : List ℕ) (moment : ℕ) (cs : List RowChange) (old r : Network)
-    → Accepts s project w moment cs → IsAbout w (target kind.Network pool instance name)
+network-changed : {expects : Option (List ℕ)} (s : State) (project : List ℕ) (w : What) (pool instance name : List ℕ) (moment : ℕ) (cs : List RowChange) (old r : Network)
+    → Accepts expects s project w moment cs → IsAbout w (target kind.Network pool instance name)
     → network_named s.networks (home_of s.projects project kind.Network) name ≡ Some old
     → r.project ≡ old.project → r.name ≡ old.name → AtOnce s (put_all (row.Network r ∷ []))
 network-changed s project w pool instance name moment cs old r h about is same_project same_name =
@@ -84,8 +84,8 @@ network-changed s project w pool instance name moment cs old r h about is same_p
     (subst (λ p. IsHome s p kind.Network) (sym named.0) (network-home s project h.whole.defaults (its-project about (accepted-names h) refl)))
     (network-itself s.networks home name old is) same_project same_name
 
-volume-changed : (s : State) (project : List ℕ) (w : What) (pool instance name : List ℕ) (moment : ℕ) (cs : List RowChange) (old r : Volume)
-    → Accepts s project w moment cs → IsAbout w (target kind.Volume pool instance name)
+volume-changed : {expects : Option (List ℕ)} (s : State) (project : List ℕ) (w : What) (pool instance name : List ℕ) (moment : ℕ) (cs : List RowChange) (old r : Volume)
+    → Accepts expects s project w moment cs → IsAbout w (target kind.Volume pool instance name)
     → volume_named s.volumes (home_of s.projects project kind.Volume) pool name ≡ Some old
     → r.project ≡ old.project → r.pool ≡ old.pool → r.name ≡ old.name → r.created ≡ old.created → AtOnce s (put_all (row.Volume r ∷ []))
 volume-changed s project w pool instance name moment cs old r h about is same_project same_pool same_name same_age =
@@ -95,8 +95,8 @@ volume-changed s project w pool instance name moment cs old r h about is same_pr
     (subst (λ p. IsHome s p kind.Volume) (sym named.0) (volume-home s project h.whole.defaults (its-project about (accepted-names h) refl)))
     (volume-itself s.volumes home pool name old is) same_project same_pool same_name same_age
 
-instance-changed : (s : State) (project : List ℕ) (pool instance name : List ℕ) (body : Body) (moment : ℕ) (cs : List RowChange) (old : Instance)
-    → Accepts s project (what.Patch (target kind.Instance pool instance name) body) moment cs
+instance-changed : {expects : Option (List ℕ)} (s : State) (project : List ℕ) (pool instance name : List ℕ) (body : Body) (moment : ℕ) (cs : List RowChange) (old : Instance)
+    → Accepts expects s project (what.Patch (target kind.Instance pool instance name) body) moment cs
     → instance_named s.instances project name ≡ Some old → option_map_or are_profiles body.profiles true ≡ true
     → AtOnce s (put_all (row.Instance (patched_instance old body) ∷ []))
 instance-changed s project pool instance name body moment cs old h is profiles =
@@ -113,8 +113,8 @@ instance-changed s project pool instance name body moment cs old h is profiles =
 
 -- ---- PUT
 
-pub puts : (s : State) (project : List ℕ) (k : ObjectKind) (pool instance name : List ℕ) (body : Body) (moment : ℕ) (cs : List RowChange)
-    → Accepts s project (what.Put (target k pool instance name) body) moment cs → AtOnce s cs
+pub puts : {expects : Option (List ℕ)} (s : State) (project : List ℕ) (k : ObjectKind) (pool instance name : List ℕ) (body : Body) (moment : ℕ) (cs : List RowChange)
+    → Accepts expects s project (what.Put (target k pool instance name) body) moment cs → AtOnce s cs
 unfolding plan_of
 puts s project kind.Project pool instance name body moment cs h = by (project_named s.projects name) refl h.plan where
   by : (o : Option Project) → project_named s.projects name ≡ o → if_there (plan_put s project (target kind.Project pool instance name) body) (option_map row.Project o) ≡ changes cs → AtOnce s cs
@@ -156,8 +156,8 @@ puts s project kind.Operation pool instance name body moment cs h = never_nothin
 
 -- ---- PATCH
 
-pub patches : (s : State) (project : List ℕ) (k : ObjectKind) (pool instance name : List ℕ) (body : Body) (moment : ℕ) (cs : List RowChange)
-    → Accepts s project (what.Patch (target k pool instance name) body) moment cs → AtOnce s cs
+pub patches : {expects : Option (List ℕ)} (s : State) (project : List ℕ) (k : ObjectKind) (pool instance name : List ℕ) (body : Body) (moment : ℕ) (cs : List RowChange)
+    → Accepts expects s project (what.Patch (target k pool instance name) body) moment cs → AtOnce s cs
 unfolding plan_of
 patches s project kind.Project pool instance name body moment cs h = by (project_named s.projects name) refl h.plan where
   by : (o : Option Project) → project_named s.projects name ≡ o → if_there (plan_patch body) (option_map row.Project o) ≡ changes cs → AtOnce s cs

@@ -207,26 +207,26 @@ module _ (s : State) (h : EachRow IsSortedRow s) where
 
   -- ---- by command
 
-  by-what : (project : List ℕ) (w : What) (moment : ℕ) → IsSortedRequest w → PutsSorted (plan_of s (record { project = project; what = w }) moment)
+  by-what : (project : List ℕ) (expects : Option (List ℕ)) (w : What) (moment : ℕ) → IsSortedRequest w → PutsSorted (plan_of s (record { project = project; what = w; expects = expects }) moment)
   unfolding plan_of
-  by-what project (what.Create of body) moment b = creates project of.kind of.pool of.instance of.name body moment b
-  by-what project (what.Put of body) moment b = puts project of.kind of.pool of.instance of.name body b
-  by-what project (what.Patch of body) moment b = patches project of.kind of.pool of.instance of.name body b
-  by-what project (what.Move of to) moment b = moves project of.kind of.pool of.instance of.name to
-  by-what project (what.Delete of) moment b = removes project of.kind of.pool of.instance of.name
-  by-what project (what.Act of action) moment b = there (λ i. Unit {0}) _ (instance_named s.instances project of.name) any (λ i known r e. claims-none e)
-  by-what project (what.Restore of snapshot) moment b =
+  by-what project expects (what.Create of body) moment b = creates project of.kind of.pool of.instance of.name body moment b
+  by-what project expects (what.Put of body) moment b = puts project of.kind of.pool of.instance of.name body b
+  by-what project expects (what.Patch of body) moment b = patches project of.kind of.pool of.instance of.name body b
+  by-what project expects (what.Move of to) moment b = moves project of.kind of.pool of.instance of.name to
+  by-what project expects (what.Delete of) moment b = removes project of.kind of.pool of.instance of.name
+  by-what project expects (what.Act of action) moment b = there (λ i. Unit {0}) _ (instance_named s.instances project of.name) any (λ i known r e. claims-none e)
+  by-what project expects (what.Restore of snapshot) moment b =
       there (λ i. Unit {0}) _ (instance_named s.instances project of.name) any (λ i known.
       there (λ r. IsSortedRow (row.Snapshot r)) _ (snapshot_named s.snapshots project of.name snapshot) (of-snapshot project of.name snapshot)
       (λ r kept. claims-one _ (sorted-restored i r kept)))
-  by-what project what.Root moment b = tt
-  by-what project what.Server moment b = tt
-  by-what project (what.List of recursion) moment b = tt
-  by-what project (what.Get of) moment b = tt
-  by-what project (what.State of) moment b = tt
-  by-what project (what.GetOp op) moment b = tt
-  by-what project (what.Cancel op) moment b = tt
-  by-what project (what.Wait op timeout) moment b = tt
+  by-what project expects what.Root moment b = tt
+  by-what project expects what.Server moment b = tt
+  by-what project expects (what.List of recursion) moment b = tt
+  by-what project expects (what.Get of) moment b = tt
+  by-what project expects (what.State of) moment b = tt
+  by-what project expects (what.GetOp op) moment b = tt
+  by-what project expects (what.Cancel op) moment b = tt
+  by-what project expects (what.Wait op timeout) moment b = tt
 
   pub plan-sorted : (c : Command) (moment : ℕ) → IsSortedRequest c.what → PutsSorted (plan_of s c moment)
-  plan-sorted c moment b = by-what c.project c.what moment b
+  plan-sorted c moment b = by-what c.project c.expects c.what moment b

@@ -45,46 +45,46 @@ about-delete of = record { speaks = refl; changed = refl; objects = λ s project
 
 -- ---- what the rules say
 
-pub its-project : {s : State} {project : List ℕ} {w : What} {of : Target} → IsAbout w of → AreNamesRight s (command_of project w) → is_in_project of.kind ≡ true
+pub its-project : {s : State} {project : List ℕ} {expects : Option (List ℕ)} {w : What} {of : Target} → IsAbout w of → AreNamesRight s (command_of project expects w) → is_in_project of.kind ≡ true
     → is_some (project_named s.projects project) ≡ true
-its-project {s} {project} {w} {of} about names belongs = project-there s (command_of project w) of about.speaks belongs names.project
+its-project {s} {project} {expects} {w} {of} about names belongs = project-there s (command_of project expects w) of about.speaks belongs names.project
 
-pub it-is_there : {s : State} {project : List ℕ} {w : What} {of : Target} → IsAbout w of → AreNamesRight s (command_of project w)
+pub it-is_there : {s : State} {project : List ℕ} {expects : Option (List ℕ)} {w : What} {of : Target} → IsAbout w of → AreNamesRight s (command_of project expects w)
     → (parent_missing s project of ≡ None) × (is_there s project of ≡ true)
-it-is_there {s} {project} {w} {of} about names = object-there s project of (sym (about.objects s project) ∙ names.objects)
+it-is_there {s} {project} {expects} {w} {of} about names = object-there s project of (sym (about.objects s project) ∙ names.objects)
 
 -- a rule of the changed object
 rule-of : (rule : Target → Option Refusal) (o : Option Target) (of : Target) → o ≡ Some of → option_and_then rule o ≡ None → rule of ≡ None
 rule-of rule o of is e = ap (option_and_then rule) (sym is) ∙ e
 
-pub it-is_unprotected : {s : State} {project : List ℕ} {w : What} {of : Target} → IsAbout w of → IsWayFree s (command_of project w)
-    → is_protected s (command_of project w) of ≡ false
+pub it-is_unprotected : {s : State} {project : List ℕ} {expects : Option (List ℕ)} {w : What} {of : Target} → IsAbout w of → IsWayFree s (command_of project expects w)
+    → is_protected s (command_of project expects w) of ≡ false
 unfolding object_protected
-it-is_unprotected {s} {project} {w} {of} about way = told_if _ _ (rule-of _ (object_changed w) of about.changed way.unprotected)
+it-is_unprotected {s} {project} {expects} {w} {of} about way = told_if _ _ (rule-of _ (object_changed w) of about.changed way.unprotected)
 
-pub it-is_empty : {s : State} {project : List ℕ} {w : What} {of : Target} → IsAbout w of → IsWayFree s (command_of project w)
+pub it-is_empty : {s : State} {project : List ℕ} {expects : Option (List ℕ)} {w : What} {of : Target} → IsAbout w of → IsWayFree s (command_of project expects w)
     → (must_be_empty s w of && is_occupied s of.name) ≡ false
 unfolding project_occupied
-it-is_empty {s} {project} {w} {of} about way = told_if _ _ (rule-of _ (object_changed w) of about.changed way.empty)
+it-is_empty {s} {project} {expects} {w} {of} about way = told_if _ _ (rule-of _ (object_changed w) of about.changed way.empty)
 
-pub it-is_unheld : {s : State} {project pool instance name : List ℕ} {w : What} → IsAbout w (target kind.Profile pool instance name)
-    → IsWayFree s (command_of project w) → holder_of s (home_of s.projects project kind.Profile) name ≡ None
+pub it-is_unheld : {s : State} {project pool instance name : List ℕ} {expects : Option (List ℕ)} {w : What} → IsAbout w (target kind.Profile pool instance name)
+    → IsWayFree s (command_of project expects w) → holder_of s (home_of s.projects project kind.Profile) name ≡ None
 unfolding profile_held
-it-is_unheld {s} {project} {pool} {instance} {name} {w} about way =
-    not_mapped _ _ (rule-of (held_profile s (command_of project w)) (object_changed w) (target kind.Profile pool instance name) about.changed way.unheld)
+it-is_unheld {s} {project} {pool} {instance} {name} {expects} {w} about way =
+    not_mapped _ _ (rule-of (held_profile s (command_of project expects w)) (object_changed w) (target kind.Profile pool instance name) about.changed way.unheld)
 
-pub it-is_idle : {s : State} {project : List ℕ} {w : What} {of : Target} (name : List ℕ) → IsAbout w of → IsWayFree s (command_of project w)
+pub it-is_idle : {s : State} {project : List ℕ} {expects : Option (List ℕ)} {w : What} {of : Target} (name : List ℕ) → IsAbout w of → IsWayFree s (command_of project expects w)
     → instance_in of ≡ Some name → busy_with s project name ≡ None
 unfolding instance_busy
-it-is_idle {s} {project} {w} {of} name about way is =
+it-is_idle {s} {project} {expects} {w} {of} name about way is =
     not_mapped _ _ (ap (option_and_then (named_instance_busy s project)) (sym (about.instance ∙ is)) ∙ way.idle)
 
-pub rename-unused : {s : State} {project to : List ℕ} {of : Target} → IsWayFree s (command_of project (what.Move of to))
+pub rename-unused : {s : State} {project to : List ℕ} {expects : Option (List ℕ)} {of : Target} → IsWayFree s (command_of project expects (what.Move of to))
     → first_user_of s (home_of s.projects project of.kind) of ≡ None
 unfolding object_used
 rename-unused way = not_mapped _ _ way.unused
 
-pub deletion-unused : {s : State} {project : List ℕ} {of : Target} → IsWayFree s (command_of project (what.Delete of))
+pub deletion-unused : {s : State} {project : List ℕ} {expects : Option (List ℕ)} {of : Target} → IsWayFree s (command_of project expects (what.Delete of))
     → first_user_of s (home_of s.projects project of.kind) of ≡ None
 unfolding object_used
 deletion-unused way = not_mapped _ _ way.unused

@@ -17,6 +17,7 @@ use Rattle.row_machine.specs.machine.State.{State}
 use Rattle.row_machine.specs.machine.Rows.{default_name, project_named}
 use Rattle.row_machine.specs.machine.Homes.{home_of, home_by, has_feature}
 use Rattle.row_machine.specs.machine.NameRules.{project_missing, what_is_missing, name_broken, is_there, name_malformed, name_taken, name_held, object_missing, parent_missing, missing_unless, claims_object}
+use Rattle.row_machine.specs.machine.Expectations.{not_as_expected}
 use Rattle.row_machine.specs.machine.Rules.{names_broken}
 use Rattle.row_machine.specs.machine.Kinds.{is_in_project}
 use Rattle.row_machine.specs.machine.StandingRules.{instance_busy, wrong_state, object_protected, object_used, project_occupied, profile_held}
@@ -52,6 +53,7 @@ apart a b e same = false-true (sym e ∙ subst (λ x. bytes_eq x b ≡ true) (sy
 pub record AreNamesRight (s : State) (c : Command) : Type 0 where
   pub project : project_missing s c ≡ None
   pub objects : what_is_missing s c.project c.what ≡ None
+  pub expected : not_as_expected s c ≡ None
   pub name : option_and_then (name_broken s c.project) (new_name_of s c.project c.what) ≡ None
 
 pub names-right : (s : State) (c : Command) → names_broken s c ≡ None → AreNamesRight s c
@@ -59,8 +61,9 @@ unfolding names_broken
 names-right s c e =
     let project = none_both (project_missing s c) _ e in
     let objects = none_both (what_is_missing s c.project c.what) _ project.1 in
-    let name = none_both (option_and_then (name_broken s c.project) (new_name_of s c.project c.what)) None objects.1 in
-    record { project = project.0; objects = objects.0; name = name.0 }
+    let expected = none_both (not_as_expected s c) _ objects.1 in
+    let name = none_both (option_and_then (name_broken s c.project) (new_name_of s c.project c.what)) None expected.1 in
+    record { project = project.0; objects = objects.0; expected = expected.0; name = name.0 }
 
 -- the rules on what stands in the way
 pub record IsWayFree (s : State) (c : Command) : Type 0 where

@@ -4,8 +4,7 @@ ghost use Rattle.std.specs.Str.{bytes_eq};
 ghost use Rattle.records.specs.declared.rows.Row.TheVariants as row;
 
 use crate::row_ref::RowRef;
-use records::{Instance, Network, Pool, Profile, Project, Snapshot, Volume};
-use row_readings::AnyRow;
+use records::{AnyRow, Instance, Network, Pool, Profile, Project, Snapshot, Volume};
 use size_values::{Boxed, NoMemory};
 
 /// Adds projects.

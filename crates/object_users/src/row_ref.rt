@@ -1,4 +1,4 @@
-use row_readings::AnyRow;
+use records::AnyRow;
 use std::marker::Model;
 
 /// A row of any kind, lent. Contracts see the row.
@@ -9,7 +9,7 @@ pub struct RowRef<'a> {
 
 impl<'a> Model for RowRef<'a> {
     ghost use Rattle.records.specs.declared.rows.Row.{Row};
-    ghost use Rattle.row_readings.specs.AnyRows.{row_in};
+    ghost use Rattle.records.specs.AnyRows.{row_in};
 
     ghost Value = { Row };
 

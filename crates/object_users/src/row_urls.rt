@@ -6,8 +6,7 @@ ghost use Rattle.row_machine.specs.shown.Views.{row_url, urls};
 
 use crate::row_ref::RowRef;
 use object_links::{snapshot_target, target_named, url_of, volume_target};
-use records::Target;
-use row_readings::AnyRow;
+use records::{AnyRow, Target};
 use size_values::{NoMemory, ObjectKind, Seq, Text};
 use std::alloc::Global;
 

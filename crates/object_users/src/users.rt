@@ -10,8 +10,8 @@ use crate::gathered::{add_instances, add_networks, add_profiles, add_volumes};
 use crate::row_ref::RowRef;
 use crate::row_urls::{sorted_urls, target_of};
 use crate::uses::{instance_uses, names_profile, profile_uses, volume_uses};
-use records::{Instance, Profile, Target};
-use row_readings::{AnyRow, StateRef, rows_at_home, rows_of};
+use records::{AnyRow, Instance, Profile, Target};
+use row_readings::{StateRef, rows_at_home, rows_of};
 use size_values::{Boxed, NoMemory, ObjectKind, Seq, Text};
 use std::alloc::Global;
 

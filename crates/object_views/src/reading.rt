@@ -12,8 +12,8 @@ use crate::operations_shown::{operation_reply, operations_reply};
 use crate::row_views::{row_view, row_views};
 use crate::usage::usage_view;
 use object_users::{RowRef, urls_of_rows};
-use records::{Instance, Reply, Target, View, What};
-use row_readings::{AnyRow, StateRef, power_of};
+use records::{AnyRow, Instance, Reply, Target, View, What};
+use row_readings::{StateRef, power_of};
 use size_values::{NoMemory, ObjectKind, Seq, Text};
 use std::alloc::Global;
 

@@ -5,8 +5,8 @@ ghost use Rattle.row_machine.specs.machine.StandingRules.{power_of};
 ghost use Rattle.row_machine.specs.shown.Views.{instance_view, row_view};
 
 use object_users::{RowRef, used_by};
-use records::{Instance, View};
-use row_readings::{AnyRow, StateRef, power_of};
+use records::{AnyRow, Instance, View};
+use row_readings::{StateRef, power_of};
 use size_values::{NoMemory, Power, Seq};
 use std::alloc::Global;
 

@@ -1,5 +1,5 @@
 -- Plans that change nothing at once: those of objects whose changes tell nothing at once.
-use Rattle.std.proofs.Common.{◌≡◌, refl, sym, ℕ, Bool, true, false, List, Option, Some, None, length, ◌==◌, if◌then◌else◌}
+use Rattle.std.proofs.Common.{◌≡◌, refl, sym, ℕ, Bool, true, false, List, Option, Some, None, length, ◌==◌, if◌then◌else◌, subst}
 use Rattle.std.specs.Option.{option_map}
 use Rattle.size_values.specs.declared.kinds.ObjectKind.{ObjectKind}
 use Rattle.size_values.specs.declared.kinds.ObjectKind.TheVariants as kind
@@ -131,38 +131,44 @@ deletions-silent s project of = at of.kind where
 -- ---- as commands
 
 -- the command of this request in this project
-abbrev pub command_of : List ℕ → What → Command
-command_of project w = record { project = project; what = w }
+abbrev pub command_of : List ℕ → Option (List ℕ) → What → Command
+command_of project expects w = record { project = project; what = w; expects = expects }
+
+-- what is true of the command of these parts is true of the command that has them
+pub of-its-command : {project : List ℕ} {w : What} (P : Command → Type 0) (c : Command) → project ≡ c.project → c.what ≡ w
+    → P (command_of project c.expects w) → P c
+of-its-command {project} {w} P c there is h =
+    subst (λ p. P (command_of p c.expects c.what)) there (subst (λ x. P (command_of project c.expects x)) (sym is) h)
 
 -- a creation that tells nothing changes nothing at once
-pub creation-silent : (s : State) (project : List ℕ) (of : Target) (body : Body) (moment : ℕ)
-    → None ≡ made_life of.kind → changes_in (plan_of s (command_of project (what.Create of body)) moment) ≡ None
+pub creation-silent : (s : State) (project : List ℕ) (expects : Option (List ℕ)) (of : Target) (body : Body) (moment : ℕ)
+    → None ≡ made_life of.kind → changes_in (plan_of s (command_of project expects (what.Create of body)) moment) ≡ None
 unfolding plan_of
-creation-silent s project of body moment silent = creations-silent s project of body moment (sym silent)
+creation-silent s project expects of body moment silent = creations-silent s project of body moment (sym silent)
 
 -- a PUT that tells nothing changes nothing at once
-pub put-silent : (s : State) (project : List ℕ) (of : Target) (body : Body) (moment : ℕ)
-    → None ≡ changed_life of.kind → changes_in (plan_of s (command_of project (what.Put of body)) moment) ≡ None
+pub put-silent : (s : State) (project : List ℕ) (expects : Option (List ℕ)) (of : Target) (body : Body) (moment : ℕ)
+    → None ≡ changed_life of.kind → changes_in (plan_of s (command_of project expects (what.Put of body)) moment) ≡ None
 unfolding plan_of
-put-silent s project of body moment silent = puts-silent s project of body (sym silent)
+put-silent s project expects of body moment silent = puts-silent s project of body (sym silent)
 
 -- a PATCH that tells nothing changes nothing at once
-pub patch-silent : (s : State) (project : List ℕ) (of : Target) (body : Body) (moment : ℕ)
-    → None ≡ changed_life of.kind → changes_in (plan_of s (command_of project (what.Patch of body)) moment) ≡ None
+pub patch-silent : (s : State) (project : List ℕ) (expects : Option (List ℕ)) (of : Target) (body : Body) (moment : ℕ)
+    → None ≡ changed_life of.kind → changes_in (plan_of s (command_of project expects (what.Patch of body)) moment) ≡ None
 unfolding plan_of
-patch-silent s project of body moment silent = patches-silent s project of body (sym silent)
+patch-silent s project expects of body moment silent = patches-silent s project of body (sym silent)
 
 -- a rename that tells nothing changes nothing at once
-pub move-silent : (s : State) (project : List ℕ) (of : Target) (to : List ℕ) (moment : ℕ)
-    → None ≡ moved_life of.kind → changes_in (plan_of s (command_of project (what.Move of to)) moment) ≡ None
+pub move-silent : (s : State) (project : List ℕ) (expects : Option (List ℕ)) (of : Target) (to : List ℕ) (moment : ℕ)
+    → None ≡ moved_life of.kind → changes_in (plan_of s (command_of project expects (what.Move of to)) moment) ≡ None
 unfolding plan_of
-move-silent s project of to moment silent = moves-silent s project of to (sym silent)
+move-silent s project expects of to moment silent = moves-silent s project of to (sym silent)
 
 -- a deletion that tells nothing changes nothing at once
-pub deletion-silent : (s : State) (project : List ℕ) (of : Target) (moment : ℕ)
-    → None ≡ deleted_life of.kind → changes_in (plan_of s (command_of project (what.Delete of)) moment) ≡ None
+pub deletion-silent : (s : State) (project : List ℕ) (expects : Option (List ℕ)) (of : Target) (moment : ℕ)
+    → None ≡ deleted_life of.kind → changes_in (plan_of s (command_of project expects (what.Delete of)) moment) ≡ None
 unfolding plan_of
-deletion-silent s project of moment silent = deletions-silent s project of (sym silent)
+deletion-silent s project expects of moment silent = deletions-silent s project of (sym silent)
 
 -- a read, a cancel and a wait change nothing, and changes of an instance's state and restores are operations
 pub other-silent : (s : State) (c : Command) (moment : ℕ)
@@ -173,7 +179,7 @@ unfolding plan_of
 other-silent s c moment create put patch move delete = by c.what create put patch move delete where
   by : (w : What) → ((of : Target) (body : Body) → w ≡ what.Create of body → ⊥) → ((of : Target) (body : Body) → w ≡ what.Put of body → ⊥)
       → ((of : Target) (body : Body) → w ≡ what.Patch of body → ⊥) → ((of : Target) (to : List ℕ) → w ≡ what.Move of to → ⊥)
-      → ((of : Target) → w ≡ what.Delete of → ⊥) → changes_in (plan_of s (command_of c.project w) moment) ≡ None
+      → ((of : Target) → w ≡ what.Delete of → ⊥) → changes_in (plan_of s (command_of c.project c.expects w) moment) ≡ None
   by (what.Create of body) create put patch move delete = absurd (create of body refl)
   by (what.Put of body) create put patch move delete = absurd (put of body refl)
   by (what.Patch of body) create put patch move delete = absurd (patch of body refl)

@@ -5,12 +5,11 @@ ghost use Rattle.records.specs.declared.rows.Row.TheVariants as row_of;
 ghost use Rattle.row_machine.specs.declared.changes.RowChange.TheVariants as change;
 ghost use Rattle.row_machine.specs.machine.NewRows.{default_profile};
 ghost use Rattle.row_machine.specs.machine.Changes.{removal};
-ghost use Rattle.row_readings.specs.AnyRows.{row_in};
+ghost use Rattle.records.specs.AnyRows.{row_in};
 
 use object_links::{three_names, two_names};
-use records::Row;
+use records::{AnyRow, Row};
 use row_machine::RowChange;
-use row_readings::AnyRow;
 use size_values::{NoMemory, ObjectKind, Seq, Text};
 use std::alloc::Global;
 

@@ -6,16 +6,16 @@ ghost use Rattle.row_machine.specs.machine.State.{State};
 ghost use Rattle.row_machine.specs.machine.Plans.{plan_create, volume_creation};
 ghost use Rattle.row_machine.specs.machine.Plans.{plan_put, plan_patch, plan_move};
 ghost use Rattle.row_machine.specs.machine.Plans.{plan_delete};
-ghost use Rattle.row_readings.specs.AnyRows.{row_in};
+ghost use Rattle.records.specs.AnyRows.{row_in};
 ghost use Rattle.plans_objects.specs.Planning.{changes_in};
 
 use crate::changes::{and_put, one_put, one_removal};
 use crate::projects::{
     project_creation, project_deletion, project_patch, project_put, project_rename,
 };
-use records::{Body, Origin, Row, Target};
+use records::{AnyRow, Body, Origin, Row, Target};
 use row_machine::RowChange;
-use row_readings::{AnyRow, StateRef};
+use row_readings::StateRef;
 use rows_made::{
     made_network, made_pool, made_profile, made_volume, patched_instance, patched_network,
     patched_pool, patched_profile, patched_volume, put_network, put_pool, put_profile, put_volume,

@@ -1,5 +1,5 @@
 //! What each command that changes rows at once is to do.
-ghost use Rattle.std.specs.Prelude.{◌≡◌, IfOk};
+ghost use Rattle.std.specs.Prelude.{◌≡◌, ℕ, List, Option, IfOk};
 ghost use Rattle.records.specs.declared.commands.What.TheVariants as what;
 ghost use Rattle.plans_objects.specs.Planning.{IsPlanOf};
 
@@ -20,8 +20,8 @@ fn plan_creation(
     body: &Body,
     moment: u64,
 ) -> Result<Option<Planned>, NoMemory>
-    ensures { IfOk result (λ p. IsPlanOf p view.now
-        (record { project = project.now; what = what.Create of.now body.now }) moment) }
+    ensures { (expects : Option (List ℕ)) → IfOk result (λ p. IsPlanOf p view.now
+        (record { project = project.now; what = what.Create of.now body.now; expects = expects }) moment) }
 {
     let Some(action) = made_life(of.kind) else {
         return Ok(None);
@@ -39,8 +39,8 @@ fn plan_put(
     body: &Body,
     moment: u64,
 ) -> Result<Option<Planned>, NoMemory>
-    ensures { IfOk result (λ p. IsPlanOf p view.now
-        (record { project = project.now; what = what.Put of.now body.now }) moment) }
+    ensures { (expects : Option (List ℕ)) → IfOk result (λ p. IsPlanOf p view.now
+        (record { project = project.now; what = what.Put of.now body.now; expects = expects }) moment) }
 {
     let Some(action) = changed_life(of.kind) else {
         return Ok(None);
@@ -61,8 +61,8 @@ fn plan_patch(
     body: &Body,
     moment: u64,
 ) -> Result<Option<Planned>, NoMemory>
-    ensures { IfOk result (λ p. IsPlanOf p view.now
-        (record { project = project.now; what = what.Patch of.now body.now }) moment) }
+    ensures { (expects : Option (List ℕ)) → IfOk result (λ p. IsPlanOf p view.now
+        (record { project = project.now; what = what.Patch of.now body.now; expects = expects }) moment) }
 {
     let Some(action) = changed_life(of.kind) else {
         return Ok(None);
@@ -98,8 +98,8 @@ fn plan_move(
     to: &Text,
     moment: u64,
 ) -> Result<Option<Planned>, NoMemory>
-    ensures { IfOk result (λ p. IsPlanOf p view.now
-        (record { project = project.now; what = what.Move of.now to.now }) moment) }
+    ensures { (expects : Option (List ℕ)) → IfOk result (λ p. IsPlanOf p view.now
+        (record { project = project.now; what = what.Move of.now to.now; expects = expects }) moment) }
 {
     let Some(action) = moved_life(of.kind) else {
         return Ok(None);
@@ -122,8 +122,8 @@ fn plan_deletion(
     of: &Target,
     moment: u64,
 ) -> Result<Option<Planned>, NoMemory>
-    ensures { IfOk result (λ p. IsPlanOf p view.now
-        (record { project = project.now; what = what.Delete of.now }) moment) }
+    ensures { (expects : Option (List ℕ)) → IfOk result (λ p. IsPlanOf p view.now
+        (record { project = project.now; what = what.Delete of.now; expects = expects }) moment) }
 {
     let Some(action) = deleted_life(of.kind) else {
         return Ok(None);

@@ -10,9 +10,9 @@ ghost use Rattle.row_machine.specs.machine.Plans.{project_change, project_rename
 ghost use Rattle.row_machine.specs.machine.Plans.{project_deletion};
 
 use crate::changes::{and_default_removal, and_put, and_removal, one_put, one_removal};
-use records::{Body, Profile, Project, Row};
+use records::{AnyRow, Body, Profile, Project, Row};
 use row_machine::RowChange;
-use row_readings::{AnyRow, StateRef, is_on};
+use row_readings::{StateRef, is_on};
 use rows_made::{
     default_profile, made_project, patched_project, put_project, rehomed_profile, renamed_project,
 };

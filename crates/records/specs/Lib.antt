@@ -1,1 +1,2 @@
+pub mod AnyRows
 pub mod Forms

@@ -44,11 +44,13 @@ pub struct Body {
     pub origin: Origin,
 }
 
-/// What a request asks for, in the project that its query names.
+/// What a request asks for, in the project that its query names. `expects` is the entity tag that the object has to
+/// have, with its quotes, where the request says so (RFC 9110, section 13.1.1).
 #[derive(Drop)]
 pub struct Command {
     pub project: Text,
     pub what: What,
+    pub expects: Option<Text>,
 }
 
 /// The requests of the REST API. `Root` and `Server` are `GET /` and `GET /1.0`; `State` is the state of an

@@ -3,6 +3,7 @@
 //! the store speaks of them.
 #![tactic(auto)]
 
+mod any_row;
 mod commands;
 mod notices;
 mod refusals;
@@ -10,6 +11,7 @@ mod replies;
 mod rows;
 mod texts;
 
+pub use any_row::AnyRow;
 pub use commands::{Body, Command, Origin, Target, What};
 pub use config_lists::{Changes, Config, Device, Devices};
 pub use notices::{EventBody, Filter, Life, Notice, Untold};

@@ -135,7 +135,7 @@ asked_speaks s c moment no_memory None = tt
 
 -- an operation that is asked for
 shown_speaks : (s : State) (project : List ℕ) (op moment : ℕ) (outcome : Outcome) (refusal : Option Refusal)
-    → Speaks IsAtOnce (after_command s (record { project = project; what = what.GetOp op }) moment outcome refusal)
+    → Speaks IsAtOnce (after_command s (record { project = project; what = what.GetOp op; expects = None }) moment outcome refusal)
 unfolding accepted plan_of
 shown_speaks s project op moment well (Some refusal) = refused_tells refusal
 shown_speaks s project op moment well None = read_tells s project (what.GetOp op)
@@ -180,16 +180,16 @@ for_client {s} {s'} {store} {store'} {c} {moment} {a} t =
 
 -- an operation that was asked for
 pub turned_at_once : (s : State) (project : List ℕ) (op moment : ℕ) (outcome : Outcome) (a : Answer) (s' : State)
-    → step s (event.Ask (record { project = project; what = what.GetOp op }) moment) outcome
+    → step s (event.Ask (record { project = project; what = what.GetOp op; expects = None }) moment) outcome
     ≡ Some (and_then a s') → IsAtOnce a
 unfolding step
 turned_at_once s project op moment outcome a s' is =
-    turned_speaks IsAtOnce s (event.Ask (record { project = project; what = what.GetOp op }) moment) outcome a s'
+    turned_speaks IsAtOnce s (event.Ask (record { project = project; what = what.GetOp op; expects = None }) moment) outcome a s'
     (shown_speaks s project op moment outcome
-    (broken s (record { project = project; what = what.GetOp op }) moment)) is
+    (broken s (record { project = project; what = what.GetOp op; expects = None }) moment)) is
 
 pub at_once : {s s' : State} {store store' : Store} {project : List ℕ} {op moment : ℕ} {a : Answer}
-    → IsTurn s store (event.Ask (record { project = project; what = what.GetOp op }) moment) a s' store' → IsAtOnce a
+    → IsTurn s store (event.Ask (record { project = project; what = what.GetOp op; expects = None }) moment) a s' store' → IsAtOnce a
 at_once {s} {s'} {store} {store'} {project} {op} {moment} {a} t =
     turned_at_once s project op moment t.outcome a s' t.turns.is
 

@@ -49,7 +49,7 @@ pub no_memory_is_printed : (terms : Terms) (request : Request) → NoMemoryIsKno
     → no_memory_text request ≡ printed reply.NoMemory terms request
 unfolding printed printed_of
 no_memory_is_printed terms request known = ap
-    (λ body. text_to request (record { code = 500; body = body; location = []; last = request.last }))
+    (λ body. text_to request (record { code = 500; body = body; location = []; tag = []; last = request.last }))
     (sym (known terms))
 
 -- a reply that stands ready is told as it is

@@ -1,5 +1,5 @@
 -- What a command can be answered.
-use Rattle.std.specs.Prelude.{◌≢◌, ℕ}
+use Rattle.std.specs.Prelude.{◌≢◌, ℕ, None}
 use Rattle.records.specs.declared.commands.Command.{Command}
 use Rattle.records.specs.declared.commands.What.TheVariants as what
 use Rattle.records.specs.declared.replies.Reply.TheVariants as reply
@@ -28,6 +28,6 @@ abbrev pub answer_of : ReplyOrWait → Answer
 answer_of (asked.Reply reply) = answered reply
 answer_of (asked.Hold op) = answer.Hold op
 
--- in the project of a command, an operation is asked for
+-- in the project of a command, an operation is asked for, which may have any tag
 abbrev pub showing : ℕ → Command → Command
-showing op command = record { project = command.project; what = what.GetOp op }
+showing op command = record { project = command.project; what = what.GetOp op; expects = None }

@@ -54,7 +54,7 @@ malformed_text fault = whole_text (reply.Refused (plain_refusal (rule_of fault))
 
 -- the reply that takes no memory
 abbrev pub no_memory_printed : Bool → Printed
-no_memory_printed last = record { code = 500; body = no_memory_body; location = []; last = last }
+no_memory_printed last = record { code = 500; body = no_memory_body; location = []; tag = []; last = last }
 
 -- the bytes that are written of it
 abbrev pub no_memory_text : Request → List ℕ

@@ -7,7 +7,7 @@ use Rattle.records.specs.declared.replies.OpView.{OpView}
 use Rattle.records.specs.declared.notices.EventBody.{EventBody}
 use Rattle.records.specs.declared.notices.EventBody.TheVariants as body
 use Rattle.records.specs.declared.notices.Notice.{Notice}
-use Rattle.serde_json.specs.Data.{Data, string, Members, no_members, put}
+use Rattle.serde_json.specs.Data.{string, Members, no_members, put}
 use Rattle.serde_json.specs.Written.{has_float, members_have_float}
 use Rattle.rest_replies.specs.declared.refusals.Part.{Part}
 use Rattle.rest_replies.specs.declared.refusals.Part.TheVariants as part

@@ -1,5 +1,5 @@
 -- Lists of which a filter chooses some objects.
-use Rattle.std.specs.Prelude.{ℕ, Bool, true, false, List, map, filter, Option, Some, None}
+use Rattle.std.specs.Prelude.{Bool, true, false, List, map, filter, Option, Some, None}
 use Rattle.filter_texts.specs.declared.choice.Step.{Step}
 use Rattle.list_filter.specs.Taking.{is_taken}
 use Rattle.list_filter.specs.Urls.{view_url}

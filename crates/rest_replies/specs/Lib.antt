@@ -1,5 +1,6 @@
 pub mod Refusals
 pub mod Chosen
 pub mod Replies
+pub mod Tags
 pub mod Notices
 pub mod WordExamples

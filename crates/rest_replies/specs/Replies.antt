@@ -1,4 +1,4 @@
--- Replies: the code, the Location and the body of each.
+-- Replies: the code, the Location, the entity tag and the body of each.
 use Rattle.std.specs.Prelude.{◌≡◌, ℕ, List, [], ◌∷◌, Bool, true, false, not, ◌&&◌, map, codes}
 use Rattle.operations.specs.declared.status.Status.{Status}
 use Rattle.http_front.specs.declared.reply.Printed.{Printed}
@@ -23,6 +23,7 @@ use Rattle.rest_json.specs.declared.terms.Dialect.{Dialect}
 use Rattle.rest_json.specs.declared.terms.Dialect.TheVariants as dialect
 use Rattle.rest_json.specs.declared.terms.Terms.{Terms}
 use Rattle.rest_replies.specs.Refusals.{rule_code, refusal_data}
+use Rattle.rest_replies.specs.Tags.{reply_tag}
 
 -- the reply to a command that was carried out at once, with what it tells
 unfoldable pub success_data : Data → Data
@@ -111,6 +112,7 @@ printed_of reply terms last = record {
   code = reply_code reply;
   body = compact_text (reply_data terms reply);
   location = reply_location terms.boot reply;
+  tag = reply_tag terms.dialect reply;
   last = last;
 }
 

@@ -4,7 +4,7 @@ use Rattle.records.specs.declared.refusals.Details.{Details}
 use Rattle.records.specs.declared.refusals.Rule.{Rule}
 use Rattle.records.specs.declared.refusals.Rule.TheVariants as rule
 use Rattle.rest_json.specs.declared.terms.Dialect.TheVariants as dialect
-use Rattle.rest_replies.specs.Refusals.{error_text, rule_text}
+use Rattle.rest_replies.specs.Refusals.{error_text}
 
 -- what is kept of a refusal
 abbrev pub kept : Details

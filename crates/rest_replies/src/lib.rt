@@ -1,5 +1,5 @@
-//! Replies and events as JSON: the body, the code and the Location of every reply of the REST API, the text of a
-//! notice, and the ids of operations.
+//! Replies and events as JSON: the body, the code, the Location and the entity tag of every reply of the REST API, the
+//! text of a notice, and the ids of operations.
 #![tactic(auto)]
 
 mod known;
@@ -7,6 +7,7 @@ mod laws;
 mod notices;
 mod printing;
 mod refusals;
+mod tags;
 
 pub use known::{known_reply, server_text};
 pub use laws::{no_memory_is_known, refusals_in_words};

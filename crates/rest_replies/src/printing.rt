@@ -1,4 +1,4 @@
-//! Replies: the code, the Location and the body of each.
+//! Replies: the code, the Location, the entity tag and the body of each.
 ghost use Rattle.std.specs.Prelude.{◌≡◌, ◌++◌, [], Some, false, map, IfOk, IsTrue};
 ghost use Rattle.std.specs.Option.{option_copied};
 ghost use Rattle.http_front.specs.Replies.{is_reply_code};
@@ -15,6 +15,7 @@ ghost use Rattle.rest_replies.specs.Replies.{whole_by_status, no_memory_refusal,
 ghost use Rattle.rest_replies.specs.Replies.{reply_location, printed_of};
 
 use crate::refusals::{refusal_value, rule_code};
+use crate::tags::reply_tag;
 use filter_texts::Choice;
 use http_front::Printed;
 use list_filter::{takes, url_of_view};
@@ -349,8 +350,8 @@ fn reply_location(alloc: Global, boot: u64, reply: &Reply) -> Result<Text, NoMem
     }
 }
 
-/// A reply as it is printed: its code, its body as JSON, and its Location. With `last` the connection ends after the
-/// reply.
+/// A reply as it is printed: its code, its body as JSON, its Location, and in the client's dialect the entity tag of the
+/// row that it shows, if it shows one (RFC 9110, section 8.8.3). With `last` the connection ends after the reply.
 #[tactic(auto, unfolding(crate::specs::Replies::printed_of))]
 pub fn print(alloc: Global, reply: &Reply, terms: Terms, last: bool) -> Result<Printed, NoMemory>
     ensures text { IfOk result (λ p. p ≡ printed_of reply.now terms last) }
@@ -360,6 +361,7 @@ pub fn print(alloc: Global, reply: &Reply, terms: Terms, last: bool) -> Result<P
         code: reply_code(reply),
         body: reply_body(alloc, terms, reply)?,
         location: reply_location(alloc, terms.boot, reply)?,
+        tag: reply_tag(alloc, terms.dialect, reply)?,
         last,
     })
 }
@@ -383,6 +385,7 @@ pub fn print_chosen(
         code: 200,
         body: chosen_body(alloc, terms, choice, whole, views)?,
         location: Text::new(alloc),
+        tag: Text::new(alloc),
         last,
     })
 }

@@ -1,5 +1,5 @@
 -- A list that takes a filter is asked for by its query.
-use Rattle.std.proofs.Common.{◌≡◌, ℕ, Bool, true, List, Option, Some, None, Result, Ok, Err, refl, ap, sym, ◌∙◌, option_map}
+use Rattle.std.proofs.Common.{◌≡◌, ℕ, true, List, Some, Result, Ok, Err, ap, sym, ◌∙◌, option_map}
 use Rattle.std.specs.Result.{result_ok}
 use Rattle.form_urlencoded.specs.Form.{raw_pairs}
 use Rattle.http_heads.specs.declared.request.Request.{Request}
@@ -12,12 +12,12 @@ use Rattle.rest_json.specs.declared.terms.Terms.{Terms}
 use Rattle.rest_routes.proofs.InPlain.{asks}
 use Rattle.rest_routes.proofs.Passing.{none_passed}
 use Rattle.rest_routes.specs.Answers.{followed, mapped}
-use Rattle.rest_routes.specs.Commands.{asked_at, plain_command, told, what_at}
+use Rattle.rest_routes.specs.Commands.{asked_at, expected_in, plain_command, told, what_at}
 use Rattle.rest_routes.specs.Filters.{can_be_filtered, list_query, passes_empty}
 use Rattle.rest_routes.specs.Leniencies.{as_plain, body_in, pairs_in}
 use Rattle.rest_routes.specs.Paths.{path_of, query_of}
 use Rattle.rest_routes.specs.Queries.{asks_objects, pairs_passing, project_of, query_of as query_said}
-use Rattle.rest_routes.specs.Routed.{IsAsked, ListsAreAskedByTheirQuery}
+use Rattle.rest_routes.specs.Routed.{ListsAreAskedByTheirQuery}
 use Rattle.rest_routes.specs.Targets.{objects_of}
 use Rattle.rest_routes.specs.declared.endpoints.Endpoint.TheVariants as endpoint
 use Rattle.rest_routes.specs.declared.endpoints.Line.{Line}
@@ -42,6 +42,7 @@ at_list : (request : Request) (line : Line) (kind : ObjectKind) (terms : Terms) 
     ≡ Ok (record {
       project = project_of query;
       what = what.List (objects_of kind (path_of request.target)) (asks_objects query);
+      expects = expected_in request.if_match;
     })
 unfolding plain_command
 at_list request line kind terms query is said =
@@ -51,8 +52,9 @@ at_list request line kind terms query is said =
       path = path_of request.target;
       pairs = raw_pairs (query_of request.target);
       body = object_in request.body;
+      expects = expected_in request.if_match;
     })) terms.boot)) is
-    ∙ ap (λ read. told (followed read (λ query. mapped (λ what. record { project = project_of query; what = what })
+    ∙ ap (λ read. told (followed read (λ query. mapped (λ what. record { project = project_of query; what = what; expects = expected_in request.if_match })
     (what_at (endpoint.List kind) verb.Get (path_of request.target) query terms.boot
     (option_map (body_in terms.dialect (endpoint.List kind) verb.Get (path_of request.target)) (object_in request.body)))))) said
 

@@ -26,10 +26,10 @@ use Rattle.rest_routes.proofs.FormedRequests.{AnswerIsFormed, asked_formed}
 abbrev CommandIsFormed : Result Command Refusal → Type 0
 CommandIsFormed answer = IfOk answer (λ command. IsTrue (is_formed command))
 
-in_project : (project : List ℕ) (answer : Result What Refusal) → AnswerIsFormed answer
-    → CommandIsFormed (mapped (λ asked. record { project = project; what = asked }) answer)
-in_project project (Ok asked) h = h
-in_project project (Err refusal) h = tt
+in_project : (project : List ℕ) (expects : Option (List ℕ)) (answer : Result What Refusal) → AnswerIsFormed answer
+    → CommandIsFormed (mapped (λ asked. record { project = project; what = asked; expects = expects }) answer)
+in_project project expects (Ok asked) h = h
+in_project project expects (Err refusal) h = tt
 
 -- what comes after an answer is formed, where that of each good value is
 after_good : {A : Type 0} (P : A → Type 0) (r : Result A Refusal) (f : A → Result Command Refusal) → IfOk r P
@@ -47,7 +47,7 @@ unfolding plain_command
 plain_formed asked boot =
     after_good (λ query. is_timeout (wait_timeout query) ≡ true) (query_of (takes_filter asked.endpoint asked.verb) asked.pairs) _
     (timeout_formed (takes_filter asked.endpoint asked.verb) asked.pairs) (λ query time.
-    in_project (project_of query) _ (asked_formed asked.endpoint asked.verb asked.path query boot asked.body time))
+    in_project (project_of query) asked.expects _ (asked_formed asked.endpoint asked.verb asked.path query boot asked.body time))
 
 at_line : (line : Line) (request : Request) (terms : Terms) → CommandIsFormed (command_at line request terms)
 unfolding command_at

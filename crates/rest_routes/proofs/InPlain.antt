@@ -1,14 +1,12 @@
 -- What a request asks for in each dialect.
-use Rattle.std.proofs.Common.{◌≡◌, Some, Option, None, Result, refl, ap, ◌∙◌, option_map}
+use Rattle.std.proofs.Common.{◌≡◌, Some, Option, None, refl, ap, ◌∙◌, option_map}
 use Rattle.serde_json.specs.Data.{Data}
 use Rattle.http_heads.specs.declared.request.Request.{Request}
 use Rattle.records.specs.declared.refusals.Rule.TheVariants as rule
-use Rattle.rest_json.specs.declared.terms.Dialect.{Dialect}
 use Rattle.rest_json.specs.declared.terms.Dialect.TheVariants as dialect
 use Rattle.rest_json.specs.declared.terms.Terms.{Terms}
 use Rattle.rest_routes.specs.Answers.{followed}
 use Rattle.rest_routes.specs.Commands.{asked_at, command_at, command_of, plain_command, told, unlisted}
-use Rattle.rest_routes.specs.Endpoints.{line_of, verb_offered}
 use Rattle.rest_routes.specs.Leniencies.{Asked, as_plain}
 use Rattle.rest_routes.specs.Paths.{path_of}
 use Rattle.rest_routes.specs.Routed.{ClientAsksInPlain, IsAsked, PlainAsksAsItIs}

@@ -7,7 +7,6 @@ use Rattle.std.specs.Result.{result_ok}
 use Rattle.std.specs.Char.{is_ascii_digit}
 use Rattle.std.specs.Str.{bytes_eq}
 use Rattle.std.specs.Str.Parse.{digits_value}
-use Rattle.form_urlencoded.specs.Form.{raw_pairs}
 use Rattle.filter_texts.specs.declared.choice.Step.{Step}
 use Rattle.size_values.specs.Count.{count_of}
 use Rattle.size_values.specs.Reading.{reading, fault_if, stray, is_too_large, is_outside}

@@ -1,5 +1,6 @@
 -- Which command a request asks for, or by which rule of its form it is refused.
-use Rattle.std.specs.Prelude.{ℕ, List, [], Option, Some, None, Result, Ok, Err, ok_or, option_map, if◌then◌else◌}
+use Rattle.std.specs.Prelude.{ℕ, List, [], Option, Some, None, Result, Ok, Err, ok_or, option_map, if◌then◌else◌, codes}
+use Rattle.std.specs.Str.{bytes_eq}
 use Rattle.form_urlencoded.specs.Form.{raw_pairs}
 use Rattle.serde_json.specs.Data.{Data}
 use Rattle.http_heads.specs.declared.request.Request.{Request}
@@ -37,13 +38,19 @@ what_at endpoint verb path query boot body =
 unfoldable pub plain_command : Asked → ℕ → Result Command Refusal
 plain_command asked boot =
     followed (query_said (takes_filter asked.endpoint asked.verb) asked.pairs) (λ query.
-    mapped (λ what. record { project = project_of query; what = what })
+    mapped (λ what. record { project = project_of query; what = what; expects = asked.expects })
     (what_at asked.endpoint asked.verb asked.path query boot asked.body))
 
 -- a refusal as the reply of a request that is refused
 abbrev pub told : {T : Type 0} → Result T Refusal → Result T Reply
 told (Ok value) = Ok value
 told (Err refusal) = Err (reply.Refused refusal)
+
+-- the entity tag that the object of a request has to have, by its If-Match: `*` and an absent header expect nothing (RFC
+-- 9110, section 13.1.1)
+abbrev pub expected_in : Option (List ℕ) → Option (List ℕ)
+expected_in None = None
+expected_in (Some value) = if bytes_eq value (codes "*") then None else Some value
 
 -- what a request asks by its form, with a method that is offered at the line of its path
 abbrev pub asked_at : Line → Verb → Request → Asked
@@ -53,6 +60,7 @@ asked_at line verb request = record {
   path = path_of request.target;
   pairs = raw_pairs (query_of request.target);
   body = object_in request.body;
+  expects = expected_in request.if_match;
 }
 
 -- what is shown of a list that is always empty here, by the methods that it offers, if a path is that of one

@@ -1,7 +1,7 @@
 -- What the client's dialect reads otherwise than the plain one. The command `incus` sends some fields without a value
 -- where they mean nothing, names a snapshot behind its instance, and starts a new instance by a request of its own.
 -- Such a request is read as the plain request without these parts, so that the plain rules are the only ones.
-use Rattle.std.specs.Prelude.{ℕ, Bool, true, false, List, Option, option_map, codes}
+use Rattle.std.specs.Prelude.{ℕ, List, Option, option_map, codes}
 use Rattle.serde_json.specs.Data.{Data}
 use Rattle.size_values.specs.declared.kinds.ObjectKind.TheVariants as kind
 use Rattle.rest_bodies.specs.Without.{with_own_snapshot, without_empty, without_start, without_untyped_source}
@@ -15,14 +15,15 @@ use Rattle.rest_routes.specs.declared.endpoints.Endpoint.TheVariants as endpoint
 use Rattle.rest_routes.specs.declared.endpoints.Verb.{Verb}
 use Rattle.rest_routes.specs.declared.endpoints.Verb.TheVariants as verb
 
--- What a request asks by its form: what stands at its path, its method, the path, the pairs of its query, and the
--- object in its body, if that spells one.
+-- What a request asks by its form: what stands at its path, its method, the path, the pairs of its query, the object in
+-- its body, if that spells one, and the entity tag that its object has to have.
 pub record Asked : Type 0 where
   pub endpoint : Endpoint
   pub verb : Verb
   pub path : List ℕ
   pub pairs : List (List ℕ × List ℕ)
   pub body : Option Data
+  pub expects : Option (List ℕ)
 
 -- the body of a request to an endpoint
 abbrev pub plain_body : Endpoint → Verb → List ℕ → Data → Data

@@ -5,7 +5,7 @@ use Rattle.records.specs.Forms.{is_formed}
 use Rattle.records.specs.declared.commands.What.TheVariants as what
 use Rattle.rest_json.specs.declared.terms.Dialect.TheVariants as dialect
 use Rattle.rest_json.specs.declared.terms.Terms.{Terms}
-use Rattle.rest_routes.specs.Commands.{asked_at, command_of, plain_command, told}
+use Rattle.rest_routes.specs.Commands.{asked_at, command_of, expected_in, plain_command, told}
 use Rattle.rest_routes.specs.Endpoints.{line_of, verb_offered}
 use Rattle.rest_routes.specs.Filters.{can_be_filtered, list_query}
 use Rattle.rest_routes.specs.Leniencies.{as_plain}
@@ -50,4 +50,5 @@ ListsAreAskedByTheirQuery =
     → command_of request terms ≡ Ok (record {
       project = project_of query;
       what = what.List (objects_of kind (path_of request.target)) (asks_objects query);
+      expects = expected_in request.if_match;
     })

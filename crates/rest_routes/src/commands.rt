@@ -4,7 +4,8 @@ ghost use Rattle.serde_json.specs.View.{view};
 ghost use Rattle.records.specs.declared.replies.Reply.TheVariants as reply;
 ghost use Rattle.rest_bodies.specs.Members.{object_in};
 ghost use Rattle.rest_routes.specs.Answers.{Gives, Reads};
-ghost use Rattle.rest_routes.specs.Commands.{command_at, command_of, shown_empty, unlisted, what_at};
+ghost use Rattle.rest_routes.specs.Commands.{command_at, command_of, expected_in, shown_empty, unlisted};
+ghost use Rattle.rest_routes.specs.Commands.{what_at};
 ghost use Rattle.rest_routes.specs.Endpoints.{empty_line_of, has_body, verb_offered};
 ghost use Rattle.rest_routes.specs.Leniencies.{body_in};
 ghost use Rattle.rest_routes.specs.Paths.{path_of, query_of};
@@ -23,7 +24,7 @@ use records::{Command, Refusal, Reply, Rule, What};
 use rest_bodies::object_in;
 use rest_json::{Dialect, Terms};
 use serde_json::Value;
-use size_values::{NoMemory, Or, Seq};
+use size_values::{NoMemory, Or, Seq, Text};
 use std::alloc::Global;
 
 /// The object that a body spells, read in a dialect, if the method sends one.
@@ -64,6 +65,20 @@ fn what_at(
     what_without_body(alloc, endpoint, verb, path, query, boot)
 }
 
+/// The entity tag that the object of a request has to have, by its If-Match: `*` and an absent header expect nothing
+/// (RFC 9110, section 13.1.1).
+fn expected_in(alloc: Global, if_match: &Option<Text>) -> Result<Option<Text>, NoMemory>
+    ensures { IfOk result (λ tag. tag ≡ expected_in if_match.now) }
+{
+    let Some(value) = if_match else {
+        return Ok(None);
+    };
+    if value.view() == "*" {
+        return Ok(None);
+    }
+    Ok(Some(value.copy(alloc)?))
+}
+
 /// The command at the line of a path.
 #[tactic(auto, unfolding(crate::specs::Commands::command_at, crate::specs::Commands::plain_command))]
 fn command_at(
@@ -86,10 +101,15 @@ fn command_at(
     let sent = sent_body(alloc, terms.dialect, endpoint, verb, path, body)?;
     let query = query_in(alloc, terms.dialect, endpoint, verb, query_text)?;
     let what = what_at(alloc, endpoint, verb, path, &query, terms.boot, &sent)?;
+    let expects = expected_in(alloc, &request.if_match)?;
     match project_of(alloc, query) {
-        Ok(project) => Ok(Command { project, what }),
+        Ok(project) => Ok(Command {
+            project,
+            what,
+            expects,
+        }),
         Err(NoMemory) => {
-            drop(what);
+            drop((what, expects));
             Err(Or::NoMemory)
         }
     }

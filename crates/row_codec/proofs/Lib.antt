@@ -13,3 +13,4 @@ pub mod Alone
 pub mod Lengths
 pub mod ShortParts
 pub mod Sums
+pub mod TagSizes

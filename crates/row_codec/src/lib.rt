@@ -12,6 +12,7 @@ mod parts;
 mod reading;
 mod size_laws;
 mod sizes;
+mod tags;
 mod unreadable;
 mod writing;
 
@@ -29,5 +30,6 @@ pub use sizes::{
     instance_size, network_size, pool_size, profile_size, project_size, row_size, snapshot_size,
     volume_size,
 };
+pub use tags::tag_of;
 pub use unreadable::Unreadable;
 pub use writing::{encode, key_of, kind_of};

@@ -1,12 +1,13 @@
 //! The sizes of bodies of version 1, part by part. A sum stops at the greatest number of eight bytes.
 ghost use Rattle.std.specs.Prelude.{◌≡◌, ◌+◌, ℕ, length};
+ghost use Rattle.records.specs.AnyRows.{row_in};
 ghost use Rattle.row_codec.specs.Spelling.{text_bytes, texts_bytes, settings_bytes, devices_bytes, body_of};
 ghost use Rattle.row_codec.specs.Spelling.{project_bytes, profile_bytes, network_bytes, pool_bytes, volume_bytes};
 ghost use Rattle.row_codec.specs.Spelling.{instance_bytes, snapshot_bytes};
 ghost use Rattle.row_codec.specs.Sizes.{capped};
 
 use config_lists::{Config, Devices};
-use records::{Instance, Network, Pool, Profile, Project, Row, Snapshot, Volume};
+use records::{AnyRow, Instance, Network, Pool, Profile, Project, Row, Snapshot, Volume};
 use size_values::Text;
 
 /// The sum of both, or the greatest number.
@@ -147,13 +148,20 @@ pub fn snapshot_size(row: &Snapshot) -> u64
 pub fn row_size(row: &Row) -> u64
     ensures { result ≡ capped (length (body_of row.now)) }
 {
+    size_of(row.lent())
+}
+
+/// The same of a row that is lent.
+pub(crate) fn size_of(row: AnyRow<'_>) -> u64
+    ensures { result ≡ capped (length (body_of (row_in row.entry))) }
+{
     match row {
-        Row::Project(row) => project_size(row),
-        Row::Profile(row) => profile_size(row),
-        Row::Network(row) => network_size(row),
-        Row::Pool(row) => pool_size(row),
-        Row::Volume(row) => volume_size(row),
-        Row::Instance(row) => instance_size(row),
-        Row::Snapshot(row) => snapshot_size(row),
+        AnyRow::Project(row) => project_size(row),
+        AnyRow::Profile(row) => profile_size(row),
+        AnyRow::Network(row) => network_size(row),
+        AnyRow::Pool(row) => pool_size(row),
+        AnyRow::Volume(row) => volume_size(row),
+        AnyRow::Instance(row) => instance_size(row),
+        AnyRow::Snapshot(row) => snapshot_size(row),
     }
 }

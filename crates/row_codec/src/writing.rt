@@ -1,5 +1,6 @@
 //! Rows, written as entries.
 ghost use Rattle.std.specs.Prelude.{◌≡◌, ◌++◌, IfOk, OnOk};
+ghost use Rattle.records.specs.AnyRows.{row_in};
 ghost use Rattle.records.specs.declared.rows.Row.{Row};
 ghost use Rattle.records.specs.declared.rows.Row.TheVariants as row;
 ghost use Rattle.row_codec.specs.Rows.{HasGoodKey, HasMoments, HasShortParts, HasTypedParts, Spells};
@@ -11,7 +12,7 @@ use crate::field_writing::{
     boolean_byte, driver_byte, kind_byte, put_devices, put_number, put_settings, put_text,
     put_texts,
 };
-use records::{Instance, Network, Pool, Profile, Project, Row, Snapshot, Volume};
+use records::{AnyRow, Instance, Network, Pool, Profile, Project, Row, Snapshot, Volume};
 use size_values::{Entry, NoMemory, Seq, Text};
 use std::alloc::Global;
 
@@ -104,19 +105,19 @@ fn put_snapshot(out: &mut Vec<u8>, snapshot: &Snapshot) -> Result<(), NoMemory>
     Ok(())
 }
 
-fn put_body(out: &mut Vec<u8>, row: &Row) -> Result<(), NoMemory>
-    requires { HasShortParts row.now }
-    ensures bytes { OnOk result (out.new.items ≡ out.old.items ++ body_of row.now) }
-    ensures typed { OnOk result (HasTypedParts row.now) }
+pub(crate) fn put_body(out: &mut Vec<u8>, row: AnyRow<'_>) -> Result<(), NoMemory>
+    requires { HasShortParts (row_in row) }
+    ensures bytes { OnOk result (out.new.items ≡ out.old.items ++ body_of (row_in row.entry)) }
+    ensures typed { OnOk result (HasTypedParts (row_in row.entry)) }
 {
     match row {
-        Row::Project(project) => put_project(out, project),
-        Row::Profile(profile) => put_profile(out, profile),
-        Row::Network(network) => put_network(out, network),
-        Row::Pool(pool) => put_pool(out, pool),
-        Row::Volume(volume) => put_volume(out, volume),
-        Row::Instance(instance) => put_instance(out, instance),
-        Row::Snapshot(snapshot) => put_snapshot(out, snapshot),
+        AnyRow::Project(project) => put_project(out, project),
+        AnyRow::Profile(profile) => put_profile(out, profile),
+        AnyRow::Network(network) => put_network(out, network),
+        AnyRow::Pool(pool) => put_pool(out, pool),
+        AnyRow::Volume(volume) => put_volume(out, volume),
+        AnyRow::Instance(instance) => put_instance(out, instance),
+        AnyRow::Snapshot(snapshot) => put_snapshot(out, snapshot),
     }
 }
 
@@ -181,7 +182,7 @@ pub fn encode(alloc: Global, row: &Row) -> Result<Entry, NoMemory>
     ensures { IfOk result (λ entry. Spells row.now entry) }
 {
     let mut body = Vec::new(alloc);
-    put_body(&mut body, row)?;
+    put_body(&mut body, row.lent())?;
     Ok(Entry {
         kind: kind_of(row),
         key: key_of(alloc, row)?,

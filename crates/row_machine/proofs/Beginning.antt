@@ -49,6 +49,7 @@ use Rattle.row_machine.specs.machine.Expansions.{expanded_of}
 use Rattle.row_machine.specs.machine.Holders.{busy_with, holder_of, first_user_of}
 use Rattle.row_machine.specs.machine.Homes.{home_of}
 use Rattle.row_machine.specs.machine.LimitRules.{instance_without_amount, volume_lacks_amount, counts_broken, part_exceeds, networks_exceed, pools_exceed, limits_broken}
+use Rattle.row_machine.specs.machine.Expectations.{not_as_expected}
 use Rattle.row_machine.specs.machine.NameRules.{project_missing, what_is_missing, name_broken}
 use Rattle.row_machine.specs.machine.Rules.{names_broken}
 use Rattle.row_machine.specs.shown.Notices.{since}
@@ -89,7 +90,7 @@ unfolding
     three_names_in read_project read_profile read_network read_pool read_volume read_instance read_snapshot row_at text_bytes
     number_bytes list_bytes accepted judged_instances judged_volumes amounts_of_instance part_of_instance share_of part_of_share expanded_of busy_with
     holder_of first_user_of home_of instance_without_amount volume_lacks_amount counts_broken part_exceeds networks_exceed pools_exceed
-    limits_broken project_missing what_is_missing name_broken names_broken since rows_break opening_of plan_of
+    limits_broken project_missing what_is_missing not_as_expected name_broken names_broken since rows_break opening_of plan_of
     forbids_profile forbids_instance policy_broken snapshot_blocked records_of broken root_missing profile_missing
     devices_miss instance_settings profile_settings row_settings settings_broken instance_busy wrong_state
     object_protected object_used project_occupied profile_held standing_broken step cancel_broken entry_broken
@@ -126,7 +127,7 @@ unfolding
     three_names_in read_project read_profile read_network read_pool read_volume read_instance read_snapshot row_at text_bytes
     number_bytes list_bytes accepted judged_instances judged_volumes amounts_of_instance part_of_instance share_of part_of_share expanded_of busy_with
     holder_of first_user_of home_of instance_without_amount volume_lacks_amount counts_broken part_exceeds networks_exceed pools_exceed
-    limits_broken project_missing what_is_missing name_broken names_broken since rows_break opening_of plan_of
+    limits_broken project_missing what_is_missing not_as_expected name_broken names_broken since rows_break opening_of plan_of
     forbids_profile forbids_instance policy_broken snapshot_blocked records_of broken root_missing profile_missing
     devices_miss instance_settings profile_settings row_settings settings_broken instance_busy wrong_state
     object_protected object_used project_occupied profile_held standing_broken step cancel_broken entry_broken
@@ -157,7 +158,7 @@ unfolding
     three_names_in read_project read_profile read_network read_pool read_volume read_instance read_snapshot row_at text_bytes
     number_bytes list_bytes accepted judged_instances judged_volumes amounts_of_instance part_of_instance share_of part_of_share expanded_of busy_with
     holder_of first_user_of home_of instance_without_amount volume_lacks_amount counts_broken part_exceeds networks_exceed pools_exceed
-    limits_broken project_missing what_is_missing name_broken names_broken since rows_break opening_of plan_of
+    limits_broken project_missing what_is_missing not_as_expected name_broken names_broken since rows_break opening_of plan_of
     forbids_profile forbids_instance policy_broken snapshot_blocked records_of broken root_missing profile_missing
     devices_miss instance_settings profile_settings row_settings settings_broken instance_busy wrong_state
     object_protected object_used project_occupied profile_held standing_broken step cancel_broken entry_broken
@@ -180,7 +181,7 @@ unfolding
     three_names_in read_project read_profile read_network read_pool read_volume read_instance read_snapshot row_at text_bytes
     number_bytes list_bytes accepted judged_instances judged_volumes amounts_of_instance part_of_instance share_of part_of_share expanded_of busy_with
     holder_of first_user_of home_of instance_without_amount volume_lacks_amount counts_broken part_exceeds networks_exceed pools_exceed
-    limits_broken project_missing what_is_missing name_broken names_broken since rows_break opening_of plan_of
+    limits_broken project_missing what_is_missing not_as_expected name_broken names_broken since rows_break opening_of plan_of
     forbids_profile forbids_instance policy_broken snapshot_blocked records_of broken root_missing profile_missing
     devices_miss instance_settings profile_settings row_settings settings_broken instance_busy wrong_state
     object_protected object_used project_occupied profile_held standing_broken step cancel_broken entry_broken
@@ -203,7 +204,7 @@ unfolding
     three_names_in read_project read_profile read_network read_pool read_volume read_instance read_snapshot row_at text_bytes
     number_bytes list_bytes accepted judged_instances judged_volumes amounts_of_instance part_of_instance share_of part_of_share expanded_of busy_with
     holder_of first_user_of home_of instance_without_amount volume_lacks_amount counts_broken part_exceeds networks_exceed pools_exceed
-    limits_broken project_missing what_is_missing name_broken names_broken since rows_break opening_of plan_of
+    limits_broken project_missing what_is_missing not_as_expected name_broken names_broken since rows_break opening_of plan_of
     forbids_profile forbids_instance policy_broken snapshot_blocked records_of broken root_missing profile_missing
     devices_miss instance_settings profile_settings row_settings settings_broken instance_busy wrong_state
     object_protected object_used project_occupied profile_held standing_broken step cancel_broken entry_broken
@@ -226,7 +227,7 @@ unfolding
     three_names_in read_project read_profile read_network read_pool read_volume read_instance read_snapshot row_at text_bytes
     number_bytes list_bytes accepted judged_instances judged_volumes amounts_of_instance part_of_instance share_of part_of_share expanded_of busy_with
     holder_of first_user_of home_of instance_without_amount volume_lacks_amount counts_broken part_exceeds networks_exceed pools_exceed
-    limits_broken project_missing what_is_missing name_broken names_broken since rows_break opening_of plan_of
+    limits_broken project_missing what_is_missing not_as_expected name_broken names_broken since rows_break opening_of plan_of
     forbids_profile forbids_instance policy_broken snapshot_blocked records_of broken root_missing profile_missing
     devices_miss instance_settings profile_settings row_settings settings_broken instance_busy wrong_state
     object_protected object_used project_occupied profile_held standing_broken step cancel_broken entry_broken
@@ -260,7 +261,7 @@ unfolding
     three_names_in read_project read_profile read_network read_pool read_volume read_instance read_snapshot row_at text_bytes
     number_bytes list_bytes accepted judged_instances judged_volumes amounts_of_instance part_of_instance share_of part_of_share expanded_of busy_with
     holder_of first_user_of home_of instance_without_amount volume_lacks_amount counts_broken part_exceeds networks_exceed pools_exceed
-    limits_broken project_missing what_is_missing name_broken names_broken since rows_break opening_of plan_of
+    limits_broken project_missing what_is_missing not_as_expected name_broken names_broken since rows_break opening_of plan_of
     forbids_profile forbids_instance policy_broken snapshot_blocked records_of broken root_missing profile_missing
     devices_miss instance_settings profile_settings row_settings settings_broken instance_busy wrong_state
     object_protected object_used project_occupied profile_held standing_broken step cancel_broken entry_broken

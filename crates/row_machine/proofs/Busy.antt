@@ -70,6 +70,7 @@ use Rattle.row_machine.specs.machine.Expansions.{expanded_of}
 use Rattle.row_machine.specs.machine.Holders.{busy_with, holder_of, first_user_of}
 use Rattle.row_machine.specs.machine.Homes.{home_of}
 use Rattle.row_machine.specs.machine.LimitRules.{instance_without_amount, volume_lacks_amount, counts_broken, part_exceeds, networks_exceed, pools_exceed, limits_broken}
+use Rattle.row_machine.specs.machine.Expectations.{not_as_expected}
 use Rattle.row_machine.specs.machine.NameRules.{project_missing, what_is_missing, name_broken}
 use Rattle.row_machine.specs.machine.Rules.{names_broken}
 use Rattle.row_machine.specs.shown.Notices.{since}
@@ -182,7 +183,7 @@ unfolding
     three_names_in read_project read_profile read_network read_pool read_volume read_instance read_snapshot row_at text_bytes
     number_bytes list_bytes accepted judged_instances judged_volumes amounts_of_instance part_of_instance share_of part_of_share expanded_of busy_with
     holder_of first_user_of home_of instance_without_amount volume_lacks_amount counts_broken part_exceeds networks_exceed pools_exceed
-    limits_broken project_missing what_is_missing name_broken names_broken since rows_break opening_of plan_of
+    limits_broken project_missing what_is_missing not_as_expected name_broken names_broken since rows_break opening_of plan_of
     forbids_profile forbids_instance policy_broken snapshot_blocked records_of broken root_missing profile_missing
     devices_miss instance_settings profile_settings row_settings settings_broken instance_busy wrong_state
     object_protected object_used project_occupied profile_held standing_broken step cancel_broken entry_broken
@@ -228,7 +229,7 @@ unfolding
     three_names_in read_project read_profile read_network read_pool read_volume read_instance read_snapshot row_at text_bytes
     number_bytes list_bytes accepted judged_instances judged_volumes amounts_of_instance part_of_instance share_of part_of_share expanded_of busy_with
     holder_of first_user_of home_of instance_without_amount volume_lacks_amount counts_broken part_exceeds networks_exceed pools_exceed
-    limits_broken project_missing what_is_missing name_broken names_broken since rows_break opening_of plan_of
+    limits_broken project_missing what_is_missing not_as_expected name_broken names_broken since rows_break opening_of plan_of
     forbids_profile forbids_instance policy_broken snapshot_blocked records_of broken root_missing profile_missing
     devices_miss instance_settings profile_settings row_settings settings_broken instance_busy wrong_state
     object_protected object_used project_occupied profile_held standing_broken step cancel_broken entry_broken
@@ -291,7 +292,7 @@ unfolding
     three_names_in read_project read_profile read_network read_pool read_volume read_instance read_snapshot row_at text_bytes
     number_bytes list_bytes accepted judged_instances judged_volumes amounts_of_instance part_of_instance share_of part_of_share expanded_of busy_with
     holder_of first_user_of home_of instance_without_amount volume_lacks_amount counts_broken part_exceeds networks_exceed pools_exceed
-    limits_broken project_missing what_is_missing name_broken names_broken since rows_break opening_of plan_of
+    limits_broken project_missing what_is_missing not_as_expected name_broken names_broken since rows_break opening_of plan_of
     forbids_profile forbids_instance policy_broken snapshot_blocked records_of broken root_missing profile_missing
     devices_miss instance_settings profile_settings row_settings settings_broken instance_busy wrong_state
     object_protected object_used project_occupied profile_held standing_broken step cancel_broken entry_broken
@@ -314,7 +315,7 @@ unfolding
     three_names_in read_project read_profile read_network read_pool read_volume read_instance read_snapshot row_at text_bytes
     number_bytes list_bytes accepted judged_instances judged_volumes amounts_of_instance part_of_instance share_of part_of_share expanded_of busy_with
     holder_of first_user_of home_of instance_without_amount volume_lacks_amount counts_broken part_exceeds networks_exceed pools_exceed
-    limits_broken project_missing what_is_missing name_broken names_broken since rows_break opening_of plan_of
+    limits_broken project_missing what_is_missing not_as_expected name_broken names_broken since rows_break opening_of plan_of
     forbids_profile forbids_instance policy_broken snapshot_blocked records_of broken root_missing profile_missing
     devices_miss instance_settings profile_settings row_settings settings_broken instance_busy wrong_state
     object_protected object_used project_occupied profile_held standing_broken step cancel_broken entry_broken
@@ -341,7 +342,7 @@ unfolding
     three_names_in read_project read_profile read_network read_pool read_volume read_instance read_snapshot row_at text_bytes
     number_bytes list_bytes accepted judged_instances judged_volumes amounts_of_instance part_of_instance share_of part_of_share expanded_of busy_with
     holder_of first_user_of home_of instance_without_amount volume_lacks_amount counts_broken part_exceeds networks_exceed pools_exceed
-    limits_broken project_missing what_is_missing name_broken names_broken since rows_break opening_of plan_of
+    limits_broken project_missing what_is_missing not_as_expected name_broken names_broken since rows_break opening_of plan_of
     forbids_profile forbids_instance policy_broken snapshot_blocked records_of broken root_missing profile_missing
     devices_miss instance_settings profile_settings row_settings settings_broken instance_busy wrong_state
     object_protected object_used project_occupied profile_held standing_broken step cancel_broken entry_broken
@@ -381,7 +382,7 @@ unfolding
     three_names_in read_project read_profile read_network read_pool read_volume read_instance read_snapshot row_at text_bytes
     number_bytes list_bytes accepted judged_instances judged_volumes amounts_of_instance part_of_instance share_of part_of_share expanded_of busy_with
     holder_of first_user_of home_of instance_without_amount volume_lacks_amount counts_broken part_exceeds networks_exceed pools_exceed
-    limits_broken project_missing what_is_missing name_broken names_broken since rows_break opening_of plan_of
+    limits_broken project_missing what_is_missing not_as_expected name_broken names_broken since rows_break opening_of plan_of
     forbids_profile forbids_instance policy_broken snapshot_blocked records_of broken root_missing profile_missing
     devices_miss instance_settings profile_settings row_settings settings_broken instance_busy wrong_state
     object_protected object_used project_occupied profile_held standing_broken step cancel_broken entry_broken
@@ -432,7 +433,7 @@ unfolding
     three_names_in read_project read_profile read_network read_pool read_volume read_instance read_snapshot row_at text_bytes
     number_bytes list_bytes accepted judged_instances judged_volumes amounts_of_instance part_of_instance share_of part_of_share expanded_of busy_with
     holder_of first_user_of home_of instance_without_amount volume_lacks_amount counts_broken part_exceeds networks_exceed pools_exceed
-    limits_broken project_missing what_is_missing name_broken names_broken since rows_break opening_of plan_of
+    limits_broken project_missing what_is_missing not_as_expected name_broken names_broken since rows_break opening_of plan_of
     forbids_profile forbids_instance policy_broken snapshot_blocked records_of broken root_missing profile_missing
     devices_miss instance_settings profile_settings row_settings settings_broken instance_busy wrong_state
     object_protected object_used project_occupied profile_held standing_broken step cancel_broken entry_broken
@@ -460,7 +461,7 @@ unfolding
     three_names_in read_project read_profile read_network read_pool read_volume read_instance read_snapshot row_at text_bytes
     number_bytes list_bytes accepted judged_instances judged_volumes amounts_of_instance part_of_instance share_of part_of_share expanded_of busy_with
     holder_of first_user_of home_of instance_without_amount volume_lacks_amount counts_broken part_exceeds networks_exceed pools_exceed
-    limits_broken project_missing what_is_missing name_broken names_broken since rows_break opening_of plan_of
+    limits_broken project_missing what_is_missing not_as_expected name_broken names_broken since rows_break opening_of plan_of
     forbids_profile forbids_instance policy_broken snapshot_blocked records_of broken root_missing profile_missing
     devices_miss instance_settings profile_settings row_settings settings_broken instance_busy wrong_state
     object_protected object_used project_occupied profile_held standing_broken step cancel_broken entry_broken
@@ -488,7 +489,7 @@ unfolding
     three_names_in read_project read_profile read_network read_pool read_volume read_instance read_snapshot row_at text_bytes
     number_bytes list_bytes accepted judged_instances judged_volumes amounts_of_instance part_of_instance share_of part_of_share expanded_of busy_with
     holder_of first_user_of home_of instance_without_amount volume_lacks_amount counts_broken part_exceeds networks_exceed pools_exceed
-    limits_broken project_missing what_is_missing name_broken names_broken since rows_break opening_of plan_of
+    limits_broken project_missing what_is_missing not_as_expected name_broken names_broken since rows_break opening_of plan_of
     forbids_profile forbids_instance policy_broken snapshot_blocked records_of broken root_missing profile_missing
     devices_miss instance_settings profile_settings row_settings settings_broken instance_busy wrong_state
     object_protected object_used project_occupied profile_held standing_broken step cancel_broken entry_broken
@@ -531,7 +532,7 @@ unfolding
     three_names_in read_project read_profile read_network read_pool read_volume read_instance read_snapshot row_at text_bytes
     number_bytes list_bytes accepted judged_instances judged_volumes amounts_of_instance part_of_instance share_of part_of_share expanded_of busy_with
     holder_of first_user_of home_of instance_without_amount volume_lacks_amount counts_broken part_exceeds networks_exceed pools_exceed
-    limits_broken project_missing what_is_missing name_broken names_broken since rows_break opening_of plan_of
+    limits_broken project_missing what_is_missing not_as_expected name_broken names_broken since rows_break opening_of plan_of
     forbids_profile forbids_instance policy_broken snapshot_blocked records_of broken root_missing profile_missing
     devices_miss instance_settings profile_settings row_settings settings_broken instance_busy wrong_state
     object_protected object_used project_occupied profile_held standing_broken step cancel_broken entry_broken
@@ -562,7 +563,7 @@ unfolding
     three_names_in read_project read_profile read_network read_pool read_volume read_instance read_snapshot row_at text_bytes
     number_bytes list_bytes accepted judged_instances judged_volumes amounts_of_instance part_of_instance share_of part_of_share expanded_of busy_with
     holder_of first_user_of home_of instance_without_amount volume_lacks_amount counts_broken part_exceeds networks_exceed pools_exceed
-    limits_broken project_missing what_is_missing name_broken names_broken since rows_break opening_of plan_of
+    limits_broken project_missing what_is_missing not_as_expected name_broken names_broken since rows_break opening_of plan_of
     forbids_profile forbids_instance policy_broken snapshot_blocked records_of broken root_missing profile_missing
     devices_miss instance_settings profile_settings row_settings settings_broken instance_busy wrong_state
     object_protected object_used project_occupied profile_held standing_broken step cancel_broken entry_broken
@@ -604,7 +605,7 @@ unfolding
     three_names_in read_project read_profile read_network read_pool read_volume read_instance read_snapshot row_at text_bytes
     number_bytes list_bytes accepted judged_instances judged_volumes amounts_of_instance part_of_instance share_of part_of_share expanded_of busy_with
     holder_of first_user_of home_of instance_without_amount volume_lacks_amount counts_broken part_exceeds networks_exceed pools_exceed
-    limits_broken project_missing what_is_missing name_broken names_broken since rows_break opening_of plan_of
+    limits_broken project_missing what_is_missing not_as_expected name_broken names_broken since rows_break opening_of plan_of
     forbids_profile forbids_instance policy_broken snapshot_blocked records_of broken root_missing profile_missing
     devices_miss instance_settings profile_settings row_settings settings_broken instance_busy wrong_state
     object_protected object_used project_occupied profile_held standing_broken step cancel_broken entry_broken
@@ -634,7 +635,7 @@ unfolding
     three_names_in read_project read_profile read_network read_pool read_volume read_instance read_snapshot row_at text_bytes
     number_bytes list_bytes accepted judged_instances judged_volumes amounts_of_instance part_of_instance share_of part_of_share expanded_of busy_with
     holder_of first_user_of home_of instance_without_amount volume_lacks_amount counts_broken part_exceeds networks_exceed pools_exceed
-    limits_broken project_missing what_is_missing name_broken names_broken since rows_break opening_of plan_of
+    limits_broken project_missing what_is_missing not_as_expected name_broken names_broken since rows_break opening_of plan_of
     forbids_profile forbids_instance policy_broken snapshot_blocked records_of broken root_missing profile_missing
     devices_miss instance_settings profile_settings row_settings settings_broken instance_busy wrong_state
     object_protected object_used project_occupied profile_held standing_broken step cancel_broken entry_broken

@@ -9,5 +9,5 @@ pub use Rattle.row_machine.specs.machine.Rows.{with_instance, with_network, with
 pub use Rattle.row_machine.specs.machine.Rows.{with_snapshot, with_instance_power, with_volume}
 pub use Rattle.row_machine.specs.machine.Homes.{home_of, is_on}
 pub use Rattle.row_machine.specs.machine.Expansions.{expanded_of}
-pub use Rattle.row_machine.specs.machine.Refusals.{on_held, on_key_of, on_name, on_number, on_object, on_project}
-pub use Rattle.row_machine.specs.machine.Refusals.{plain_refusal, no_details}
+pub use Rattle.row_machine.specs.machine.Refusals.{on_held, on_key_of, on_name, on_number, on_object, on_object_of}
+pub use Rattle.row_machine.specs.machine.Refusals.{on_project, plain_refusal, no_details}

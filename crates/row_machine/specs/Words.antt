@@ -100,6 +100,7 @@ pub use Rattle.restrictions.specs.Words.{is_true}
 pub use Rattle.restrictions.specs.declared.forbidden.Forbidden.{Forbidden}
 pub use Rattle.restrictions.specs.declared.rows.Subject.{Subject}
 pub use Rattle.row_codec.specs.Rows.{HasGoodKey, HasMoments}
+pub use Rattle.row_codec.specs.Tags.{tag_of}
 pub use Rattle.row_codec.specs.Spelling.{body_of, entry_of, two_names, key_of}
 pub use Rattle.row_codec.specs.declared.damage.Damaged.{Damaged}
 pub use Rattle.row_machine.specs.declared.changes.RowChange.{RowChange}

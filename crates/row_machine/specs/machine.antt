@@ -21,6 +21,7 @@ pub mod TableRules
 pub mod HostCalls
 pub mod Tasks
 pub mod Plans
+pub mod Expectations
 pub mod Operations
 pub mod Rules
 pub mod Accept

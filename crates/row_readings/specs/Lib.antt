@@ -1,4 +1,3 @@
-pub mod AnyRows
 pub mod Footprints
 pub mod Loads
 pub mod PoolLimits

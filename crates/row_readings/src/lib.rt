@@ -4,8 +4,8 @@
 #![tactic(auto)]
 
 mod amounts;
-mod any_row;
 mod claims;
+mod found_rows;
 mod homes;
 mod instances;
 mod layers;
@@ -22,8 +22,8 @@ mod usage;
 pub use amounts::{
     Footprint, Load, footprint_of_instance, loads, project_of_row, share_of, usage_in,
 };
-pub use any_row::{AnyRow, row_of};
 pub use claims::{claimed_instance, claimed_snapshot, claimed_volume, replaced_instance};
+pub use found_rows::row_of;
 pub use homes::{is_on, is_true};
 pub use lookups::{kept_at, power_of};
 pub use named::{Named, Names};

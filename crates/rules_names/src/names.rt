@@ -1,4 +1,4 @@
-//! Rules on names: N1 to N5.
+//! Rules on names, N1 to N5, with the rule on what a request expects, E1.
 ghost use Rattle.std.specs.Prelude.{option_and_then};
 ghost use Rattle.size_values.specs.Causes.{Says};
 ghost use Rattle.records.specs.declared.commands.Body.{Body};
@@ -8,6 +8,7 @@ ghost use Rattle.rules_names.specs.Sought.{new_name_broken};
 ghost use Rattle.row_machine.specs.machine.NameRules.{name_broken};
 ghost use Rattle.row_machine.specs.machine.Rules.{names_broken};
 
+use crate::expected::not_as_expected;
 use crate::free::name_broken;
 use crate::missing::{project_missing, what_is_missing};
 use crate::target_refs::{TargetRef, target_named, target_ref};
@@ -106,5 +107,6 @@ pub fn names_broken(
     let project = command.project.view();
     project_missing(alloc, view, command)?;
     what_is_missing(alloc, view, project, &command.what)?;
+    not_as_expected(alloc, view, command)?;
     given_name_broken(alloc, view, project, &command.what)
 }

@@ -2,7 +2,7 @@
 ghost use Rattle.std.specs.Prelude.{◌≡◌, IfOk};
 ghost use Rattle.row_machine.specs.machine.Kinds.{kind_text};
 ghost use Rattle.row_machine.specs.machine.Refusals.{no_details, on_name, on_number, on_object, on_held, on_project};
-ghost use Rattle.row_machine.specs.machine.Refusals.{on_key_of};
+ghost use Rattle.row_machine.specs.machine.Refusals.{on_key_of, on_object_of};
 
 use records::{Details, Refusal, Rule};
 use size_values::{NoMemory, ObjectKind, Text};
@@ -122,6 +122,21 @@ pub fn on_project(alloc: Global, rule: Rule, project: &str) -> Result<Refusal, N
         limit: 0,
     };
     Ok(Refusal { rule, details })
+}
+
+/// A refusal by the rule that tells an object by its kind and name, with the project.
+pub fn on_object_of(
+    alloc: Global,
+    rule: Rule,
+    kind: ObjectKind,
+    name: &str,
+    project: &str,
+) -> Result<Refusal, NoMemory>
+    ensures { IfOk result (λ r. r ≡ on_object_of rule kind name.now project.now) }
+{
+    let mut refusal = on_object(alloc, rule, kind, name)?;
+    refusal.details.project = Text::from_text(alloc, project)?;
+    Ok(refusal)
 }
 
 /// A refusal by the rule that tells a key of an object, with the project.

@@ -1,5 +1,5 @@
 -- One request comes to its reply, from what its parts ensure.
-use Rattle.std.proofs.Common.{◌≡◌, ◌⊎◌, ◌≤◌, ◌<◌, ℕ, Bool, true, false, ◌&&◌, List, [], ◌∷◌, length, Some, None, Result, Ok, Err}
+use Rattle.std.proofs.Common.{◌≡◌, ◌⊎◌, ◌≤◌, ◌<◌, ℕ, Bool, true, false, ◌&&◌, is_none, List, [], ◌∷◌, length, Some, None, Result, Ok, Err}
 use Rattle.std.proofs.Common.{refl, sym, subst, ap, codes, inl, inr}
 use Rattle.std.specs.Str.{bytes_eq}
 use Rattle.std.proofs.lemmas.Slice.Eq.{bytes_eq-Decides}
@@ -65,8 +65,10 @@ both false b e = cc
 
 -- who asks for the server does so by GET
 pub asked_by_get : (request : Request) → is_server_asked request ≡ true → asks_head request ≡ false
-asked_by_get request is = ap (λ m. bytes_eq m (codes "HEAD")) ((bytes_eq-Decides request.method (codes "GET")).0
-    (both (bytes_eq request.method (codes "GET")) (bytes_eq request.target (codes "/1.0")) is).0)
+asked_by_get request is =
+    let line = (both (bytes_eq request.method (codes "GET") && bytes_eq request.target (codes "/1.0")) (is_none request.if_match) is).0 in
+    ap (λ m. bytes_eq m (codes "HEAD")) ((bytes_eq-Decides request.method (codes "GET")).0
+    (both (bytes_eq request.method (codes "GET")) (bytes_eq request.target (codes "/1.0")) line).0)
 
 -- who asks for the server was told of it, by the text that stands ready
 pub server-replied : (terms : Terms) (w w' : SerialWorld) (request : Request) (result : PrintedReply) (moment : ℕ)

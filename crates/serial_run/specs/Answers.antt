@@ -36,7 +36,7 @@ OpensService (Err why) store store' = Refuses why store store'
 pub record Shows (project : List ℕ) (op : ℕ) (serial : Serial) (store : Store) (told : Readings) (reply : Reply)
     (later : Serial) (store' : Store) (told' : Readings) : Type 0 where
   pub moment : ℕ
-  pub turn : IsTurn serial.state store (event.Ask (record { project = project; what = what.GetOp op }) moment)
+  pub turn : IsTurn serial.state store (event.Ask (record { project = project; what = what.GetOp op; expects = None }) moment)
       (answered reply) later.state
       store'
   pub hand : later.hand ≡ serial.hand

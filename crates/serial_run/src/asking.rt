@@ -35,6 +35,7 @@ fn show_operation<R: Keeper, C: Clock>(
     let command = Command {
         project,
         what: What::GetOp { op: number },
+        expects: None,
     };
     let told = daemon.ask(alloc, keeper, &command, clock.now());
     drop(command);
@@ -59,8 +60,12 @@ fn carry_out<R: Keeper, H: Host, C: Clock>(
         (C.readings clock.new)) }
 {
     let answer = daemon.ask(alloc, keeper, &command, clock.now());
-    let Command { project, what } = command;
-    drop(what);
+    let Command {
+        project,
+        what,
+        expects,
+    } = command;
+    drop((what, expects));
     match reply_or_wait_of(answer) {
         ReplyOrWait::Reply(reply) => reply,
         ReplyOrWait::Hold(number) => {

@@ -27,7 +27,7 @@ for_client c moment a h =
     turned_for_client h.from.state c (max h.latest moment) h.outcome a h.to.state h.by.turns.is
 
 pub at_once : (project : List ℕ) (op moment : ℕ) (a : Answer)
-    → MayAnswer (event.Ask (record { project = project; what = what.GetOp op }) moment) a → IsAtOnce a
+    → MayAnswer (event.Ask (record { project = project; what = what.GetOp op; expects = None }) moment) a → IsAtOnce a
 at_once project op moment a h =
     turned_at_once h.from.state project op (max h.latest moment) h.outcome a h.to.state h.by.turns.is
 

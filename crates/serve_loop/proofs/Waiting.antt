@@ -107,14 +107,14 @@ round_idles {a} {b} {d} {e} {from} {to} {op} {deadline} {made} {clock} {live} c 
 pub shows : {old new : Seen} {told told' : Readings} {moment op : ℕ} {a : Answer} {r : Reply} {project : List ℕ}
     (c : Command) → c.project ≡ project
     → Reads told (moment ∷ []) told' → moment < moment_limit
-    → GateTurn old.contents (event.Ask (record { project = project; what = what.GetOp op }) moment) a new.contents
+    → GateTurn old.contents (event.Ask (record { project = project; what = what.GetOp op; expects = None }) moment) a new.contents
     → new.turned ≡ capped (old.turned + 1) → new.idled ≡ old.idled → answered r ≡ a
     → Walk (ServeBy c) old new (command_world (due op) told) (command_world (replied r) told')
 shows {old} {new} {told} {told'} {moment} {op} {a} {r} {project} c is read early turn turned idled answers =
     walk-turn (ServeBy c) (command_world (due op) told) (command_world (replied r) told') turn turned idled (record {
       moment = moment;
       reply = r;
-      asks = ap (λ p. event.Ask (record { project = p; what = what.GetOp op }) moment) (sym is);
+      asks = ap (λ p. event.Ask (record { project = p; what = what.GetOp op; expects = None }) moment) (sym is);
       clock = record { read = read; early = early };
       answers = answers;
       stage = refl;

@@ -17,6 +17,7 @@ get target key = record {
   expects = false;
   upgrade = Some key;
   origin = false;
+  if_match = None;
 }
 
 -- lifecycle events or not, operation events or not, and of which project

@@ -36,6 +36,7 @@ abbrev pub looked_for : Subscription → Command
 looked_for wanted = record {
   project = wanted.filter.project;
   what = what.List (record { kind = Operation; pool = []; instance = []; name = [] }) false;
+  expects = None;
 }
 
 -- what a request asks for at the gate: what its subscription does, or else its command

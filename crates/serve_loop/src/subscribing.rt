@@ -33,6 +33,7 @@ fn looked_for(alloc: Global, wanted: &Subscription) -> Result<Command, NoMemory>
             of,
             recursion: false,
         },
+        expects: None,
     })
 }
 

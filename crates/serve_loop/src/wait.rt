@@ -176,6 +176,7 @@ fn show<G: Gate, C: Clock>(gate: &mut G, clock: &mut C, project: Text, number: u
     let command = Command {
         project,
         what: What::GetOp { op: number },
+        expects: None,
     };
     let moment = clock.now();
     let answer = gate.turn(Event::Ask(command, moment));

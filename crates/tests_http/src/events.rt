@@ -141,6 +141,7 @@ fn request(alloc: Global, method: &str, target: &str, want: Want) -> Result<Requ
         expects: false,
         upgrade: key_for(alloc, want)?,
         origin: false,
+        if_match: None,
     })
 }
 

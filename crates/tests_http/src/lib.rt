@@ -18,6 +18,8 @@ mod leave;
 #[cfg(test)]
 mod origins;
 #[cfg(test)]
+mod preconditions;
+#[cfg(test)]
 mod readings;
 #[cfg(test)]
 mod replies;

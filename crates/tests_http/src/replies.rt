@@ -4,28 +4,68 @@ use http_front::{Printed, no_memory_reply, reply_bytes};
 use size_values::{NoMemory, Seq, Text};
 use std::alloc::Global;
 
-/// The parts of replies, and their bytes.
-const REPLIES: &[(u16, &str, &str, bool, &str)] = &[
+/// The parts of a reply.
+#[derive(Clone, Copy)]
+struct Parts {
+    code: u16,
+    body: &'static str,
+    location: &'static str,
+    tag: &'static str,
+    last: bool,
+}
+
+/// Replies, and their bytes.
+const REPLIES: &[(Parts, &str)] = &[
     (
-        200,
-        "{}",
-        "",
-        false,
+        Parts {
+            code: 200,
+            body: "{}",
+            location: "",
+            tag: "",
+            last: false,
+        },
         "HTTP/1.1 200 OK\r\nContent-Type: application/json\r\nContent-Length: 2\r\n\r\n{}",
     ),
     (
-        202,
-        "{\"a\":1}",
-        "/1.0/operations/1",
-        true,
+        Parts {
+            code: 202,
+            body: "{\"a\":1}",
+            location: "/1.0/operations/1",
+            tag: "",
+            last: true,
+        },
         "HTTP/1.1 202 Accepted\r\nContent-Type: application/json\r\nContent-Length: 7\r\nLocation: /1.0/operations/1\r\nConnection: close\r\n\r\n{\"a\":1}",
     ),
     (
-        405,
-        "",
-        "",
-        false,
+        Parts {
+            code: 405,
+            body: "",
+            location: "",
+            tag: "",
+            last: false,
+        },
         "HTTP/1.1 405 Method Not Allowed\r\nContent-Type: application/json\r\nContent-Length: 0\r\n\r\n",
+    ),
+    // An entity tag stands as it is given, behind the location.
+    (
+        Parts {
+            code: 200,
+            body: "{}",
+            location: "",
+            tag: "\"a1\"",
+            last: false,
+        },
+        "HTTP/1.1 200 OK\r\nContent-Type: application/json\r\nContent-Length: 2\r\nETag: \"a1\"\r\n\r\n{}",
+    ),
+    (
+        Parts {
+            code: 202,
+            body: "{}",
+            location: "/a",
+            tag: "W/\"b\"",
+            last: true,
+        },
+        "HTTP/1.1 202 Accepted\r\nContent-Type: application/json\r\nContent-Length: 2\r\nLocation: /a\r\nETag: W/\"b\"\r\nConnection: close\r\n\r\n{}",
     ),
 ];
 
@@ -46,26 +86,22 @@ fn is_printed_as(alloc: Global, printed: &Printed, want: &str) -> bool {
     is
 }
 
-fn reply_of(
-    alloc: Global,
-    code: u16,
-    body: &str,
-    location: &str,
-    last: bool,
-) -> Result<Printed, NoMemory> {
-    let body = Seq::of_bytes(alloc, body.as_bytes())?;
-    let location = Text::from_text(alloc, location)?;
+fn reply_of(alloc: Global, parts: Parts) -> Result<Printed, NoMemory> {
+    let body = Seq::of_bytes(alloc, parts.body.as_bytes())?;
+    let location = Text::from_text(alloc, parts.location)?;
+    let tag = Text::from_text(alloc, parts.tag)?;
     Ok(Printed {
-        code,
+        code: parts.code,
         body,
         location,
-        last,
+        tag,
+        last: parts.last,
     })
 }
 
 /// Whether the reply with these parts has these bytes.
-fn is_reply(alloc: Global, code: u16, body: &str, location: &str, last: bool, want: &str) -> bool {
-    let Ok(printed) = reply_of(alloc, code, body, location, last) else {
+fn is_reply(alloc: Global, parts: Parts, want: &str) -> bool {
+    let Ok(printed) = reply_of(alloc, parts) else {
         return false;
     };
     let is = is_printed_as(alloc, &printed, want);
@@ -81,11 +117,8 @@ fn is_no_memory_told() -> bool {
 
 #[test]
 fn prints_replies(rt: HostRuntime) {
-    for (code, body, location, last, want) in REPLIES {
-        assert!(rt;
-            is_reply(rt.alloc(), *code, body, location, *last, want),
-            "with code {code}"
-        );
+    for (number, (parts, want)) in REPLIES.iter().enumerate() {
+        assert!(rt; is_reply(rt.alloc(), *parts, want), "reply {number}");
     }
     assert!(rt; is_no_memory_told());
 }

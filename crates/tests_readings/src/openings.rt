@@ -110,6 +110,7 @@ fn patch(alloc: Global) -> Result<Command, NoMemory>
     Ok(Command {
         project,
         what: What::Patch { of, body },
+        expects: None,
     })
 }
 

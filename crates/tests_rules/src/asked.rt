@@ -118,5 +118,6 @@ pub(crate) fn command(alloc: Global, project: &str, asked: Asked) -> Command {
     Command {
         project: text(alloc, project),
         what: what(alloc, asked),
+        expects: None,
     }
 }

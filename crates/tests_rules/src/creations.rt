@@ -236,6 +236,7 @@ fn command(alloc: Global, case: Creation) -> Result<Command, NoMemory> {
     Ok(Command {
         project,
         what: What::Create { of, body },
+        expects: None,
     })
 }
 

@@ -2,8 +2,8 @@
 //! fails, and on threads over gates to one server under a lock; which bells wake whom there. Event sessions; the server
 //! goes on while they idle, and what they answer to the frames of their clients. Random runs, turn by turn, over the
 //! public calls of `core_turns`: after each turn the usage of every project is summed anew from what the server shows.
-//! Sixty thousand instances on one server. And the texts of replies and of events that no whole run of the program shows.
-//! There is nothing else here.
+//! Sixty thousand instances on one server. And the texts of replies and of events that no whole run of the program shows,
+//! entity tags, and what requests expect of them. There is nothing else here.
 #![tactic(auto)]
 
 #[cfg(test)]
@@ -34,5 +34,7 @@ mod random_runs;
 mod server;
 #[cfg(test)]
 mod sessions;
+#[cfg(test)]
+mod tags;
 #[cfg(test)]
 mod words;

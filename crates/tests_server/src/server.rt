@@ -57,6 +57,7 @@ pub(crate) fn request_of(alloc: Global, line: &str) -> Request {
         expects: false,
         upgrade: None,
         origin: false,
+        if_match: None,
     }
 }
 
@@ -240,6 +241,7 @@ impl<R: Keeper + Drop> ServerOver<R> {
         let command = Command {
             project: Text::new(self.alloc),
             what: What::Cancel { op: number },
+            expects: None,
         };
         let event = Event::Ask(command, NOW);
         said_by(self.daemon.turn(self.alloc, &mut self.keeper, event))

@@ -64,7 +64,7 @@ pub record HostCallFails (rise : Rise) : Type 0 where
 
 -- a command in the project `default`, at which the store fails
 abbrev pub ask_in_vain : What → Rise → Events
-ask_in_vain asked rise = (event.Ask (record { project = default; what = asked }) 0, keeper_failed rise) ∷ []
+ask_in_vain asked rise = (event.Ask (record { project = default; what = asked; expects = None }) 0, keeper_failed rise) ∷ []
 
 -- a last report that a call was done, at which the store fails
 abbrev pub done_in_vain : ℕ → Rise → Events

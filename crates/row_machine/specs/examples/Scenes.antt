@@ -50,7 +50,7 @@ with_config config = record no_body { config = Some config }
 
 -- a command in a project, which goes well
 abbrev pub ask : List ℕ → What → Events
-ask project asked = (event.Ask (record { project = project; what = asked }) 0, well) ∷ []
+ask project asked = (event.Ask (record { project = project; what = asked; expects = None }) 0, well) ∷ []
 
 -- a creation of a project with these settings
 abbrev pub make_project : List ℕ → Settings → Events

@@ -28,3 +28,7 @@ on_project rule project = record { rule = rule; details = record no_details { pr
 abbrev pub on_key_of : Rule → List ℕ → List ℕ → List ℕ → Refusal
 on_key_of rule key name project =
     record { rule = rule; details = record no_details { key = key; name = name; project = project } }
+
+abbrev pub on_object_of : Rule → ObjectKind → List ℕ → List ℕ → Refusal
+on_object_of rule kind name project =
+    record { rule = rule; details = record no_details { kind = kind_text kind; name = name; project = project } }

@@ -5,6 +5,7 @@ use Rattle.row_machine.specs.Estate.{State}
 use Rattle.row_machine.specs.Readings.{applied, new_name_of}
 use Rattle.row_machine.specs.Doings.{Plan, nothing, changes, starts, plan_of, rows_of_plan, claiming}
 use Rattle.row_machine.specs.machine.NameRules.{project_missing, what_is_missing, name_broken}
+use Rattle.row_machine.specs.machine.Expectations.{not_as_expected}
 use Rattle.row_machine.specs.machine.StandingRules.{instance_busy, wrong_state, object_protected, object_used}
 use Rattle.row_machine.specs.machine.StandingRules.{project_occupied, profile_held}
 use Rattle.row_machine.specs.machine.SettingRules.{settings_broken}
@@ -12,12 +13,13 @@ use Rattle.row_machine.specs.machine.PolicyRules.{policy_broken, snapshot_blocke
 use Rattle.row_machine.specs.machine.LimitRules.{counts_broken, limits_broken}
 use Rattle.row_machine.specs.machine.TableRules.{cancel_broken, entry_broken, tables_broken}
 
--- Rules on names: the project is missing (N1), another object is (N2), or the new name is malformed, taken or held
--- (N3 to N5).
+-- Rules on names: the project is missing (N1), another object is (N2), the object is not as the request expects it
+-- (E1), or the new name is malformed, taken or held (N3 to N5).
 unfoldable pub names_broken : State → Command → Option Refusal
 names_broken state command = first
     (project_missing state command
     ∷ what_is_missing state command.project command.what
+    ∷ not_as_expected state command
     ∷ option_and_then (name_broken state command.project) (new_name_of state command.project command.what)
     ∷ [])
 

@@ -37,6 +37,12 @@ returns-in_err-await_body-clause-ahead g c =
     let ahead = rw c.read_head.ensures.same at c.await_body.ensures.ahead in
     ahead-body c.in_ok-len.len c.await_head.ensures.ahead c.in_ok-len.ensures.ok c.in_ok-head.ensures.ok ahead
 
+pub returns-in_err-take_request-clause-held : goal.returns-in_err-take_request-clause-held
+returns-in_err-take_request-clause-held g c =
+    let p = err_from_is_err_and c.from_residual-in_err-take_request.result c.from_residual-in_err-take_request.ensures.1 in
+    let takes = rw c.read_head.ensures.same at c.await_body.ensures.takes in
+    rw (p.1, c.in_err-take_request.ensures.err) (TakesIn-further c.await_head.ensures.takes takes)
+
 pub returns-in_err-take_request-clause-ahead : goal.returns-in_err-take_request-clause-ahead
 returns-in_err-take_request-clause-ahead g c =
     let ahead = rw c.read_head.ensures.same at c.await_body.ensures.ahead in

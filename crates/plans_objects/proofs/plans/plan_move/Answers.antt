@@ -7,17 +7,17 @@ use Rattle.row_machine.specs.machine.Homes.{home_of}
 use Rattle.row_machine.specs.shown.Notices.{life_notice, moved_life}
 use Rattle.row_machine.specs.machine.Plans.{plan_of, row_of, plan_move}
 use Rattle.plans_objects.specs.Planning.{IsPlanned}
-use Rattle.row_readings.specs.AnyRows.{row_in}
+use Rattle.records.specs.AnyRows.{row_in}
 use Rattle.plans_objects.proofs.Silent.{command_of, move-silent}
 use Rattle.plans_objects.proofs.Noted.{noted, changes-there, changes-gone}
 use Rattle.plans_objects.proofs.plans.plan_move.Goals as goal
 
 pub returns-in_default : goal.returns-in_default
-returns-in_default c = move-silent c.args.view.now c.args.project.now c.args.of.now c.args.to.now c.args.moment c.in_default.ensures
+returns-in_default c expects = move-silent c.args.view.now c.args.project.now expects c.args.of.now c.args.to.now c.args.moment c.in_default.ensures
 
 pub returns-in_default-row_of : goal.returns-in_default-row_of
 unfolding plan_of
-returns-in_default-row_of c =
+returns-in_default-row_of c expects =
     let s = c.args.view.now in
     let project = c.args.project.now in
     let of = c.args.of.now in
@@ -25,12 +25,12 @@ returns-in_default-row_of c =
 
 pub returns : goal.returns
 unfolding plan_of
-returns c =
+returns c expects =
     let s = c.args.view.now in
     let project = c.args.project.now in
     let of = c.args.of.now in
     let renamed = c.in_ok-renamed.renamed in
-    let plan = plan_of s (command_of project (what.Move of c.args.to.now)) c.args.moment in
+    let plan = plan_of s (command_of project expects (what.Move of c.args.to.now)) c.args.moment in
     subst
     (λ (t : Target). IfOk c.with_notice-planned.result (λ p. IsPlanned p plan
     (option_to_list (option_map (life_notice c.args.moment (home_of s.projects project t.kind) t) (moved_life of.kind)))))

@@ -2,17 +2,17 @@ use Rattle.records.specs.declared.commands.What.TheVariants as what
 use Rattle.row_machine.specs.machine.Homes.{home_of}
 use Rattle.row_machine.specs.shown.Notices.{life_notice, changed_life}
 use Rattle.row_machine.specs.machine.Plans.{plan_of, row_of, plan_put}
-use Rattle.row_readings.specs.AnyRows.{row_in}
+use Rattle.records.specs.AnyRows.{row_in}
 use Rattle.plans_objects.proofs.Silent.{command_of, put-silent}
 use Rattle.plans_objects.proofs.Noted.{noted, changes-there, changes-gone}
 use Rattle.plans_objects.proofs.plans.plan_put.Goals as goal
 
 pub returns-in_default : goal.returns-in_default
-returns-in_default c = put-silent c.args.view.now c.args.project.now c.args.of.now c.args.body.now c.args.moment c.in_default.ensures
+returns-in_default c expects = put-silent c.args.view.now c.args.project.now expects c.args.of.now c.args.body.now c.args.moment c.in_default.ensures
 
 pub returns-in_default-row_of : goal.returns-in_default-row_of
 unfolding plan_of
-returns-in_default-row_of c =
+returns-in_default-row_of c expects =
     let s = c.args.view.now in
     let project = c.args.project.now in
     let of = c.args.of.now in
@@ -20,11 +20,11 @@ returns-in_default-row_of c =
 
 pub returns : goal.returns
 unfolding plan_of
-returns c =
+returns c expects =
     let s = c.args.view.now in
     let project = c.args.project.now in
     let of = c.args.of.now in
-    let plan = plan_of s (command_of project (what.Put of c.args.body.now)) c.args.moment in
+    let plan = plan_of s (command_of project expects (what.Put of c.args.body.now)) c.args.moment in
     noted plan (life_notice c.args.moment (home_of s.projects project of.kind) of)
     c.in-Some.action (changed_life of.kind) c.with_notice.result c.in-Some.ensures
     (c.with_notice.ensures plan

@@ -1,24 +1,12 @@
-//! Rows of all kinds, lent, by what names them.
+//! Rows of all kinds, lent, by the object of a path.
 ghost use Rattle.std.specs.Prelude.{◌≡◌};
 ghost use Rattle.std.specs.Option.{option_map};
 ghost use Rattle.row_machine.specs.machine.Plans.{row_of};
-ghost use Rattle.row_readings.specs.AnyRows.{row_in};
+ghost use Rattle.records.specs.AnyRows.{row_in};
 
 use crate::state_ref::StateRef;
-use records::{Instance, Network, Pool, Profile, Project, Snapshot, Target, Volume};
+use records::{AnyRow, Target};
 use size_values::ObjectKind;
-
-/// A row of any kind, which stays where it is.
-#[derive(Clone, Copy)]
-pub enum AnyRow<'x> {
-    Project(&'x Project),
-    Profile(&'x Profile),
-    Network(&'x Network),
-    Pool(&'x Pool),
-    Volume(&'x Volume),
-    Instance(&'x Instance),
-    Snapshot(&'x Snapshot),
-}
 
 /// The row that the object of a path is, in its home.
 pub fn row_of<'x>(view: &StateRef<'x>, project: &str, of: &Target) -> Option<AnyRow<'x>>

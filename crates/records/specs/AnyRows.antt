@@ -1,8 +1,8 @@
 -- What contracts see of a row of any kind.
 use Rattle.records.specs.declared.rows.Row.{Row}
 use Rattle.records.specs.declared.rows.Row.TheVariants as row
-use Rattle.row_readings.specs.declared.any_row.AnyRow.{AnyRow}
-use Rattle.row_readings.specs.declared.any_row.AnyRow.TheVariants as any
+use Rattle.records.specs.declared.any_row.AnyRow.{AnyRow}
+use Rattle.records.specs.declared.any_row.AnyRow.TheVariants as any
 
 -- the row itself
 abbrev pub row_in : AnyRow → Row
