@@ -319,7 +319,7 @@ def same_etag(server):
     for number in range(5):
         lab = f"etag{number}"
         server.must("POST", "/1.0/projects", {"name": lab})
-        read = server.ask("GET", f"/1.0/projects/{lab}")
+        read = server.tagged(f"/1.0/projects/{lab}")
         has_etag = has_etag and read.etag is not None
         config = read.metadata["config"]
         ends = at_once(server, [("PUT", f"/1.0/projects/{lab}", {"config": {**config, f"user.k{each}": "x"}, "description": ""},

@@ -166,6 +166,10 @@ class Server:
         self.used = time.monotonic()
         return reply
 
+    def tagged(self, path):
+        """A GET, with the entity tag of what it shows."""
+        return self.ask("GET", path)
+
     def do(self, *words):
         reply = self.link().do(*words)
         self.used = time.monotonic()
@@ -236,7 +240,15 @@ class Ours(Server):
             self.port = probe.getsockname()[1]
 
     def begin(self):
-        self.run([*self.words, "--port", str(self.port), "--db", f"{self.folder}/rows.db"], stdin=subprocess.DEVNULL)
+        self.run([*self.words, "--port", str(self.port), "--socket", f"{self.folder}/incusd.socket", "--db", f"{self.folder}/rows.db"],
+                 stdin=subprocess.DEVNULL)
+
+    def tagged(self, path):
+        """A GET at the socket file, where entity tags are told."""
+        link = UnixConnection(f"{self.folder}/incusd.socket")
+        link.request("GET", path)
+        reply = link.getresponse()
+        return Reply(reply.status, reply.read(), reply.getheader("ETag"))
 
     def connection(self):
         connection = http.client.HTTPConnection("127.0.0.1", self.port, timeout=PATIENCE)

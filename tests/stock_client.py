@@ -89,7 +89,6 @@ NETWORK_STATE = "left out: the state, leases and addresses of networks"
 SPACE = "left out: the space of pools and volumes"
 STOPPED_ALONE = "refused here: only a stopped instance is taken back to a snapshot"
 ALL_PROJECTS = "not yet: lists and events over all projects"
-FILTER = "not yet: lists by a filter"
 WHOLE = "not yet: instances shown with their state and snapshots"
 WITH_SNAPSHOTS = "not yet: copies that take the snapshots along or leave them"
 EXPIRY = "not yet: the expiry of snapshots"
@@ -143,8 +142,8 @@ COMMANDS = [
     row("instance", "list -c ns", says="c1"),
     row("instance", "list -c nsPt", says="c1"),
     row("instance snapshot", "list -c nS", says="c1"),
-    row("instance running", "list status=running", says="c1", reason=FILTER),
-    row("instance", "list status=stopped", says="c1", reason=FILTER),
+    row("instance running", "list status=running", says="c1"),
+    row("instance", "list status=stopped", says="c1"),
     row("instance", "list user.a=1", says="c1"),
     row("instance", "list --all-projects", says="c1", reason=ALL_PROJECTS),
     row("instance project", "list --project lab"),
